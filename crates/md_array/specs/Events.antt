@@ -10,7 +10,7 @@ use Rattle.md_model.specs.Rebuilding.{is_target}
 use Rattle.md_model.specs.Worlds.{Request, World}
 use Rattle.md_model.specs.Content.{Content, Becomes, HoldsBetween, HoldsInFlight}
 use Rattle.md_model.specs.Events.{Event, MemberPart, Step}
-use Rattle.md_model.specs.Runs.{failed_after, spoiled_after}
+use Rattle.md_model.specs.Runs.{failed_after}
 use Rattle.md_inflight.specs.Requests.Pending.{PendingView}
 use Rattle.md_kept_members.specs.View.{MemberView}
 use Rattle.md_faults.specs.declared.step_fault.StoreFault.{StoreFault}
@@ -26,7 +26,7 @@ use Rattle.md_state.specs.DiskWrites.{AtDevice, IsFailed, IsTried, IsWritten}
 use Rattle.md_state.specs.Requests.{AreInFlight, among, request_of}
 use Rattle.md_array.specs.Consistency.{IsConsistent}
 use Rattle.md_array.specs.Steps.Lend.{IsBesideUnsaid}
-use Rattle.md_array.specs.ReadAsKept.{AreReadAsKept}
+use Rattle.md_array.specs.ReadAsKept.{AreReadAsKept, misread_after}
 use Rattle.md_array.specs.Steps.Record.{super_write}
 use Rattle.md_array.specs.Worlds.{AreHonest, stored_on, world_of, super_in, block_on}
 use Rattle.md_members.specs.DeviceWrites.Writes.{DoesWrites, Write}
@@ -141,7 +141,7 @@ KeepsLists e w w' = ⊤
 
 -- By the event the mirror goes from its world with these requests in flight to that with those. A content that the members in
 -- sync held before it, they hold after it, changed as the event says; and who was written of a request in flight has its bytes.
--- An opening reads what is kept, if it did before. The devices do what they answer still, and one is written at most: what a
+-- An opening reads what is kept, if it did before, but of whom it may misread (`misread_after`). The devices do what they answer still, and one is written at most: what a
 -- crash within that leaves is of its write (`crashes_at_steps`).
 pub record Does (old : MirrorView) (before : ℕ → Option Request) (e : Event) (new : MirrorView) (after : ℕ → Option Request) : Type 0 where
   pub honest : AreHonest new.disks
@@ -154,8 +154,8 @@ pub record Does (old : MirrorView) (before : ℕ → Option Request) (e : Event)
   pub written : HoldsInFlight (world_of old before) → HoldsInFlight (world_of new after)
   pub sound : IsConsistent new
   pub lists : KeepsLists e (world_of old before) (world_of new after)
-  pub read : (failed_at : ℕ) (spoiled : ℕ → Bool) → AreReadAsKept old failed_at spoiled
-      → AreReadAsKept new (failed_after e (world_of new after) failed_at) (spoiled_after e (world_of old before) spoiled)
+  pub read : (failed_at : ℕ) (misread : ℕ → Bool) → AreReadAsKept old failed_at misread
+      → AreReadAsKept new (failed_after e (world_of new after) failed_at) (misread_after e old.array (world_of old before) misread)
 
 -- whatever requests of its list are in flight, before and after this
 abbrev pub Happens : MirrorView → Event → MirrorView → Type 0

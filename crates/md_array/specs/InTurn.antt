@@ -29,7 +29,7 @@ use Rattle.md_array.specs.Steps.NoteResynced.{BecomesResynced, NotesResynced}
 use Rattle.md_array.specs.Steps.Add.{Adds, add_event}
 use Rattle.md_array.specs.Steps.Admit.{DidAdmit}
 use Rattle.md_array.specs.Steps.Checkpoint.{DidCheckpoint}
-use Rattle.md_array.specs.Steps.StoreLog.{FailsToStoreLog, HaltsStoringLog, HasNoShift, StoresLog}
+use Rattle.md_array.specs.Steps.StoreLog.{FailsToStoreLog, HaltsStoringLog, StoresLog}
 use Rattle.md_array.specs.Steps.LowerOffset.{LowersOffset}
 use Rattle.md_array.specs.Steps.NoteBad.{NotesSectors, within}
 use Rattle.md_array.specs.Steps.ReAdd.{ReAdds, re_add_event}
@@ -42,14 +42,13 @@ abbrev pub Requests : Type 0
 Requests = ℕ → Option Request
 
 -- What is asked of the devices: where the event is a superblock's write that failed, that it left the old one, the new one or none; where
--- a log is stored, that it has no shift; where a member comes into sync, or a rebuild is recorded so far, that some content is held.
+-- a member comes into sync, or a rebuild is recorded so far, that some content is held.
 abbrev pub LeftWhole : MirrorView → Event → MirrorView → Type 0
 LeftWhole old (Event.WriteFails k MemberPart.Superblock) new =
     (m : MemberView) → IsMember old.array k m → AtDevice k old.disks new.disks (IsOldNewOrNone (super_write old.array m).bytes)
 LeftWhole old (Event.RecordTargetFails k) new =
     (m : MemberView) → IsMember old.array k m → AtDevice k old.disks new.disks (IsOldNewOrNone (super_write old.array m).bytes)
 LeftWhole old (Event.Checkpoint k sure listed) new = (content : Content) × HoldsContent old.disks old.array content
-LeftWhole old (Event.StoreLog k listed) new = HasNoShift k old
 LeftWhole old (Event.Enrol k role listed) new = (content : Content) × IsHeldBy k listed content old
 LeftWhole old e new = Unit {0}
 

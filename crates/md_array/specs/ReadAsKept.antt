@@ -1,5 +1,9 @@
 -- What an opening would read of the members' devices is what the mirror keeps of them.
-use Rattle.std.specs.Prelude.{◌≡◌, ◌⊎◌, ℕ, ◌/◌, ◌<◌, ◌≤◌, Bool, true, false, List, slice_get, Some}
+use Rattle.std.specs.Prelude.{◌≡◌, ◌⊎◌, ℕ, ◌/◌, ◌<◌, ◌≤◌, Bool, true, false, not, ◌==◌, ◌||◌, List, slice_get, Some}
+use Rattle.md_model.specs.Events.{Event}
+use Rattle.md_model.specs.Runs.{spoiled_after}
+use Rattle.md_model.specs.Sectors.{put}
+use Rattle.md_model.specs.Worlds.{World}
 use Rattle.md_format.specs.Fields.{number_at}
 use Rattle.md_super.specs.declared.superblock.Superblock.{Superblock}
 use Rattle.md_super.specs.Faults.{NoSuperFault}
@@ -11,7 +15,7 @@ use Rattle.md_kept_members.specs.OnDevices.Storing.{sector_from_super}
 use Rattle.md_state.specs.Members.{IsMember}
 use Rattle.md_state.specs.Missing.{is_rebuilt}
 use Rattle.md_state.specs.View.{Disk, ArrayView, MirrorView}
-use Rattle.md_array.specs.Worlds.{block_on, header_on, is_listed}
+use Rattle.md_array.specs.Worlds.{at_member, block_on, header_on, is_listed}
 
 -- this superblock is read on a device
 pub record IsSuperOn (content : List ℕ) (v : Superblock) : Type 0 where
@@ -57,7 +61,19 @@ pub record IsReadAsKept (a : ArrayView) (m : MemberView) (failed_at : ℕ) (is_s
   pub header : is_rebuilt m.state ≡ false
       → HasWidth a.chunks.sectors m.superblock content ⊎ ((is_recorded m.state ≡ false) × (is_spoiled ≡ false → IsFromBefore failed_at content))
 
--- failed_at is the count after the last failure, or 0; spoiled tells, by the index, which members are
+-- failed_at is the count after the last failure, or 0; spoiled tells, by the index, which members are, or may be
+-- misread for another reason (`misread_after`)
 abbrev pub AreReadAsKept : MirrorView → ℕ → (ℕ → Bool) → Type 0
 AreReadAsKept v failed_at spoiled =
     (k : ℕ) (d : Disk) (m : MemberView) → slice_get v.disks k ≡ Some d → IsMember v.array k m → IsReadAsKept v.array m failed_at (spoiled k) d.content
+
+-- The log that member k's own fields name is in units of two sectors or more.
+abbrev pub has_shift : ArrayView → ℕ → Bool
+has_shift a k = at_member a k false (λ m. not (m.superblock.bblog_shift == 0))
+
+-- Of which members an opening may read something else than is kept, after an event: of those that are spoiled, and of one whose log was read
+-- with a shift and is stored. It is stored without one, and the superblock that says so comes after it: between the two an opening reads the
+-- new log by the shift before, so that it finds other sectors listed than those of the member's list.
+abbrev pub misread_after : Event → ArrayView → World → (ℕ → Bool) → ℕ → Bool
+misread_after (Event.StoreLog k listed) a w before = put k (has_shift a k || before k) before
+misread_after e a w before = spoiled_after e w before

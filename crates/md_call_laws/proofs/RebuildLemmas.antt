@@ -1,6 +1,5 @@
 pub mod HeldOnDisks
 pub mod Steady
-pub mod Unshifted
 pub mod RebuildSteps
 pub mod RebuiltHolds
 pub mod RebuildCrashes

@@ -16,6 +16,8 @@ pub mod Lists
 pub mod MirrorLives
 -- A run of a mirror is a run of the model, so that the model's laws hold of it.
 pub mod MirrorRuns
+-- An opening misreads no member in sync whose superblock is stored as it is kept.
+pub mod Misread
 -- What holds of a mirror at each moment of a run, and of a life.
 pub mod Moments
 -- The offset that a device tells of is no greater than the one that is kept of its member, if it was so at the opening.

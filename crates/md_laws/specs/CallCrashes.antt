@@ -10,7 +10,6 @@ use Rattle.md_state.specs.Members.{IsMember}
 use Rattle.md_state.specs.View.{Disk, MirrorView}
 use Rattle.md_array.specs.Events.{IsOldNewOrNone}
 use Rattle.md_array.specs.InTurn.{AllLeftWhole, AllOf, HaltsAt, InTurn, Leads, LeftWhole, Requests}
-use Rattle.md_array.specs.Steps.StoreLog.{HasNoShift}
 use Rattle.md_array.specs.Steps.Record.{super_write}
 use Rattle.md_array.specs.Worlds.{AreHonest, block_on}
 use Rattle.md_laws.specs.Left.{IsLeftByCrash, contents_of}
@@ -68,17 +67,12 @@ CrashesIn [] previous old before Then t left = ⊥
 CrashesIn (e ∷ es) previous old before Then t left =
     (MayAllBeLeft old.disks t.0.disks (contents_of left) × IsLeftWhole e old t.0 left) ⊎ CrashesIn es (Some e) t.0 t.1 Then t.5 left
 
--- What is asked of the events up to a crash. Before the crash it is what is asked of each event of a call
--- (`AllLeftWhole`). Of a log that was being stored it is that it was read without a shift. Of events after
--- the crash nothing is asked.
-abbrev pub IsUnshifted : Event → MirrorView → Type 0
-IsUnshifted (Event.StoreLog k listed) old = HasNoShift k old
-IsUnshifted e old = Unit {0}
-
+-- What is asked of the events before a crash is what is asked of each event of a call (`AllLeftWhole`). Of
+-- the others nothing is asked.
 abbrev pub LeftWholeUntil : (es : List Event) (previous : Option Event) (old : MirrorView) (before : Requests) (Then : MirrorView → Requests → Type 0)
     (t : InTurn previous old before es Then) (left : List Disk) → CrashesIn es previous old before Then t left → Type 0
 LeftWholeUntil [] previous old before Then t left stop = ⊥
-LeftWholeUntil (e ∷ es) previous old before Then t left (inl here) = IsUnshifted e old
+LeftWholeUntil (e ∷ es) previous old before Then t left (inl here) = Unit {0}
 LeftWholeUntil (e ∷ es) previous old before Then t left (inr later) = LeftWhole old e t.0 × LeftWholeUntil es (Some e) t.0 t.1 Then t.5 left later
 
 -- ---- requests

@@ -2,7 +2,6 @@
 use Rattle.std.specs.Prelude.{Bool, ◌≡◌, ◌≢◌, ◌⊎◌, ℕ, ◌+◌, ◌<◌, true, List, [], ◌∷◌, ◌++◌, drop, length, map, slice_get, Some}
 use Rattle.std.specs.List.{insert}
 use Rattle.md_badblocks.specs.Log.{log_bytes}
-use Rattle.md_bitmap.specs.Marks.{Bitmap}
 use Rattle.md_device.specs.Device.{held, written}
 use Rattle.md_create.specs.Layout.{IsHalfLaidOut}
 use Rattle.md_members.specs.DeviceWrites.Writes.{IsAnyIn, IsCutShort, Write, after as content_after}

@@ -13,7 +13,7 @@ use Rattle.md_state.specs.Steps.StoreMarks.{HaltsStoringMarks, StoresMarkSector}
 use Rattle.md_state.specs.View.{Disk, MirrorView}
 use Rattle.md_array.specs.Consistency.{IsConsistent}
 use Rattle.md_array.specs.Events.{Happens, listed_on}
-use Rattle.md_array.specs.Steps.StoreLog.{HaltsStoringLog, HasNoShift, StoresLog}
+use Rattle.md_array.specs.Steps.StoreLog.{HaltsStoringLog, StoresLog}
 use Rattle.md_array.specs.Worlds.{AreHonest}
 use Rattle.md_laws.specs.CopyCrashes.{IsCopiedInPart}
 use Rattle.md_laws.specs.CrashesWithin.{MayAllBeLeft}
@@ -35,13 +35,12 @@ CrashesAtHaltedMarks =
     → (h : HaltsStoringMarks k block old new) → MayAllBeLeft old.disks new.disks left → IsDoneOrNot k h.write old.disks left
     → StandsAfter (λ other. StoresMarkSector k block old other × Happens old (Event.StoreMarks k block) other) old left
 
--- A log that is left done or not done stands as before or after `store_log`, which is an event where the log
--- was read without a shift, or stored since.
+-- A log that is left done or not done stands as before or after `store_log`.
 abbrev pub CrashesAtHaltedLog : Type 0
 CrashesAtHaltedLog =
     (k : ℕ) (old new : MirrorView) (left : List (List ℕ)) → IsConsistent old → AreHonest old.disks
     → (h : HaltsStoringLog k old new) → IsCanonical h.member.bad → MayAllBeLeft old.disks new.disks left → IsDoneOrNot k h.write old.disks left
-    → StandsAfter (λ other. StoresLog k old other × (HasNoShift k old → Happens old (Event.StoreLog k (listed_on other k)) other)) old left
+    → StandsAfter (λ other. StoresLog k old other × Happens old (Event.StoreLog k (listed_on other k)) other) old left
 
 -- each sector of the write was left as it was or as written on device k
 abbrev pub IsLeftInSectors : ℕ → ℕ → List ℕ → List Disk → List (List ℕ) → Type 0

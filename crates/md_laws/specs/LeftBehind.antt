@@ -125,12 +125,13 @@ JoinsAsLeft g m left t a =
     (j : ℕ) (device : Disk) (new : MirrorView) (r : ReAdds j device t.mirror new) → device.honest ≡ true → IsStill m left device.content
     → JoinsBehind g (re_add_event j device t.mirror new r) (world_of t.mirror t.requests) a
 
--- A member that failed, as the failure left it, joins as one that lies behind by what is marked.
+-- A member that failed, as the failure left it, joins as one that lies behind by what is marked. Its own fields are read of its device: so
+-- it must not be one that an opening may misread, here and below.
 abbrev pub FailedJoins : Type 0
 FailedJoins =
     (before : List Disk) (m : MirrorView) (a : Content) → IsStart before m → Holds (geometry_of m.array) a (world_of m none_in_flight)
     → (es : List Event) (rest : List (List Event)) (final : MirrorView) (t : Moment) (b : Content) → MirrorLifeWith m a es rest final t b
-    → (k : ℕ) (f : MemberFails t k) (o : MemberView) (d : Disk) → IsMember f.mirror.array k o → slice_get f.mirror.disks k ≡ Some d
+    → (k : ℕ) → t.misread k ≡ false → (f : MemberFails t k) (o : MemberView) (d : Disk) → IsMember f.mirror.array k o → slice_get f.mirror.disks k ≡ Some d
     → (more : List Event) (others : List (List Event)) (newest : MirrorView) (last : Moment) (c : Content)
     → DegradedLifeWith final (failed_then t k f) b more others newest last c
     → JoinsAsLeft (geometry_of m.array) o d.content last c
@@ -140,7 +141,7 @@ abbrev pub MissingJoins : Type 0
 MissingJoins =
     (before : List Disk) (m : MirrorView) (a : Content) → IsStart before m → Holds (geometry_of m.array) a (world_of m none_in_flight)
     → (es : List Event) (rest : List (List Event)) (final : MirrorView) (t : Moment) (b : Content) → MirrorLifeWith m a es rest final t b
-    → (k : ℕ) (next : MirrorView) (r : IsLeftOut final t k next) (c : Content) → BecomesAtOpening (geometry_of next.array) (world_of next none_in_flight) b c
+    → (k : ℕ) → t.misread k ≡ false → (next : MirrorView) (r : IsLeftOut final t k next) (c : Content) → BecomesAtOpening (geometry_of next.array) (world_of next none_in_flight) b c
     → (more : List Event) (others : List (List Event)) (newest : MirrorView) (last : Moment) (d : Content)
     → DegradedLifeWith next (opened_as next) c more others newest last d
     → JoinsAsLeft (geometry_of m.array) r.member r.device.content last d
@@ -151,7 +152,7 @@ abbrev pub LogJoins : Type 0
 LogJoins =
     (before : List Disk) (m : MirrorView) (a : Content) → IsStart before m → Holds (geometry_of m.array) a (world_of m none_in_flight)
     → (es : List Event) (rest : List (List Event)) (final : MirrorView) (t : Moment) (b : Content) → MirrorLifeWith m a es rest final t b
-    → (k : ℕ) (f : MemberFailsWithLog t k) (o : MemberView) (d : Disk) → IsMember f.mirror.array k o → slice_get f.mirror.disks k ≡ Some d
+    → (k : ℕ) → t.misread k ≡ false → (f : MemberFailsWithLog t k) (o : MemberView) (d : Disk) → IsMember f.mirror.array k o → slice_get f.mirror.disks k ≡ Some d
     → (more : List Event) (others : List (List Event)) (newest : MirrorView) (last : Moment) (c : Content)
     → DegradedLifeWith final (log_failed_then t k f) b more others newest last c
     → (j : ℕ) (device : Disk) (new : MirrorView) (r : ReAdds j device last.mirror new) → device.honest ≡ true → IsStill o d.content device.content

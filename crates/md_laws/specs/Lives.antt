@@ -65,7 +65,7 @@ pub record HasRecorded (t : Moment) (before : List Disk) (at : ℕ → Option �
   pub wide : IsAsWide t before at device place
 
 -- Among these are some of the devices that were left, in any order, and one of those has recorded the last failure. None of them is of a
--- member whose superblock was spoiled.
+-- member whose superblock was spoiled, or whose log had a shift and was stored while its superblock tells of that shift still.
 pub record AreFoundAgain (t : Moment) (before : List Disk) : Type 0 where
   pub left : List Disk
   pub is_left : IsLeftByCrash t left
@@ -75,6 +75,7 @@ pub record AreFoundAgain (t : Moment) (before : List Disk) : Type 0 where
   pub found : (j k : ℕ) → from j ≡ Some k → at k ≡ Some j
   pub again : (k j : ℕ) → at k ≡ Some j → IsFoundAgain t.mirror.array left before k j
   pub unspoiled : (k j : ℕ) → at k ≡ Some j → t.spoiled k ≡ false
+  pub readable : (k j : ℕ) → at k ≡ Some j → t.misread k ≡ false
   pub recorded : HasRecorded t before at
 
 -- A device that the opening before left out, as a member of the next mirror: its events are not above the array's there, and no member
@@ -158,13 +159,20 @@ KeepsContent =
     → (es : List Event) (rest : List (List Event)) (final : MirrorView) (last : Moment) (b : Content) → MirrorLifeWith m a es rest final last b
     → Holds (geometry_of m.array) b (world_of last.mirror last.requests)
 
--- At each moment of each life an opening would read of the devices what the mirror keeps of them, but for a superblock that was spoiled; and
+-- At each moment of each life an opening would read of the devices what the mirror keeps of them, but of those it may misread; and
 -- the array has the chunks and the roles of the first opening.
 abbrev pub IsReadAsKeptInLives : Type 0
 IsReadAsKeptInLives =
     (before : List Disk) (m : MirrorView) → IsStart before m
     → (es : List Event) (rest : List (List Event)) (final : MirrorView) (last : Moment) → MirrorLife m es rest final last
-    → AreReadAsKept last.mirror last.failed_at last.spoiled
+    → AreReadAsKept last.mirror last.failed_at last.misread
+
+-- An opening misreads no member in sync whose superblock is stored as it is kept.
+abbrev pub ReadsRecorded : Type 0
+ReadsRecorded =
+    (before : List Disk) (m : MirrorView) → IsStart before m
+    → (es : List Event) (rest : List (List Event)) (final : MirrorView) (last : Moment) → MirrorLife m es rest final last
+    → (k : ℕ) (n : MemberView) → IsInSync last.mirror.array k n → n.due ≡ false → last.misread k ≡ false
 
 abbrev pub KeepsGeometry : Type 0
 KeepsGeometry =

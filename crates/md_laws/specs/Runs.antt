@@ -13,6 +13,7 @@ use Rattle.md_state.specs.View.{Disk, MirrorView, geometry_of}
 use Rattle.md_state.specs.Rests.{Rests}
 use Rattle.md_array.specs.Open.Opened.{IsOpenedFrom}
 use Rattle.md_array.specs.Events.{Does}
+use Rattle.md_array.specs.ReadAsKept.{misread_after}
 use Rattle.md_array.specs.Worlds.{AreHonest, none_in_flight, world_of, world_on}
 
 -- a mirror with the requests in flight, and what of its past the laws speak of
@@ -23,6 +24,7 @@ pub record Moment : Type 0 where
   pub tried : Bool  -- data was written to a member, or a write of it failed
   pub away : ℕ → Bool  -- no member had this number at any moment since the opening
   pub spoiled : ℕ → Bool  -- of this member a write of its superblock failed and may have left any, and none was stored since
+  pub misread : ℕ → Bool  -- of this member an opening may read something else than is kept: it is spoiled, or its log, which had a shift, was stored, and its superblock not since
   pub offset_unknown : ℕ → Bool  -- this member's superblock may tell of a greater offset than is kept: the opening took it as 0, or it is spoiled
   pub log_unknown : ℕ → Bool  -- of this member an `enrol`, an `admit` or a `checkpoint` failed: its log may be any, or a superblock not tell of it
 
@@ -54,6 +56,7 @@ opened_as m =
       tried = false;
       away = λ d. not (has_number m.array.members d);
       spoiled = λ _. false;
+      misread = λ _. false;
       offset_unknown = is_lessened (world_of m none_in_flight);
       log_unknown = λ _. false;
     }
@@ -67,6 +70,7 @@ then_as t e m requests =
       tried = tried_after e t.tried;
       away = away_after e t.away;
       spoiled = spoiled_after e (world_of t.mirror t.requests) t.spoiled;
+      misread = misread_after e t.mirror.array (world_of t.mirror t.requests) t.misread;
       offset_unknown = spoiled_after e (world_of t.mirror t.requests) t.offset_unknown;
       log_unknown = log_unknown_after e (world_of t.mirror t.requests) t.log_unknown;
     }

@@ -14,6 +14,7 @@ begun_and_recorded old new requests =
       mirror = new;
       requests = requests;
       spoiled = put 0 false (opened_as old).spoiled;
+      misread = put 0 false (opened_as old).misread;
       offset_unknown = put 0 false (opened_as old).offset_unknown;
     }
 

@@ -1,6 +1,5 @@
 -- What a crash leaves within a call by which a member that is rebuilt tells of it, whatever stands in place of the superblock.
 use Rattle.std.specs.Prelude.{Bool, ◌≡◌, ◌⊎◌, ℕ, true, List, map}
-use Rattle.md_bitmap.specs.Marks.{Bitmap}
 use Rattle.md_kept_members.specs.View.{MemberView}
 use Rattle.md_state.specs.Members.{IsMember}
 use Rattle.md_state.specs.Missing.{is_rebuilt}

@@ -15,7 +15,7 @@ ghost use Rattle.md_array.specs.ReadAsKept.{AreReadAsKept};
 ghost use Rattle.md_array.specs.Worlds.{AreHonest, none_in_flight, super_of, world_of, world_on};
 ghost use Rattle.md_laws.specs.Fresh.{StartsFresh, StaysFresh};
 ghost use Rattle.md_laws.specs.LeftBehind.{FailedJoins, LiesBehind, LogJoins, LogLiesBehind, MissingJoins, MissingLiesBehind};
-ghost use Rattle.md_laws.specs.Lives.{AtEachMoment, ContentGoesAlongTold, FindsAll, FindsInSync, FindsOut, FitsWhenThere, IsReadAsKeptInLives, KeepsContent, KeepsGeometry, StaysAsLeft};
+ghost use Rattle.md_laws.specs.Lives.{AtEachMoment, ContentGoesAlongTold, FindsAll, FindsInSync, FindsOut, FitsWhenThere, IsReadAsKeptInLives, KeepsContent, KeepsGeometry, ReadsRecorded, StaysAsLeft};
 ghost use Rattle.md_laws.specs.Recovering.{ContentGoesAlong, KeepsRecovering, ListsWhereKnown, MirrorKeepsSure, OffsetsAreKept, SaysNoMoreWhenOpened, SaysNoMoreWhereKnown, SaysNoMoreWithoutList};
 ghost use Rattle.md_laws.specs.Returning.{StartsAgain};
 ghost use Rattle.md_laws.specs.Runs.{HasContent};
@@ -62,7 +62,8 @@ pub fn opening()
 ///
 /// A member that is rebuilt is spoiled where `enrol`, `admit` or `checkpoint` could not write its superblock, whatever stands there then, or
 /// where a crash came within that write (`SpoilTarget`, `crashes_at_steps`). Its mirror goes on. It is spoiled until its superblock is stored, and
-/// until then no opening after a crash may be of its device (`AreFoundAgain`).
+/// until then no opening after a crash may be of its device (`AreFoundAgain`). Nor may one be of a member in sync whose log had a shift and was
+/// stored, until its superblock is stored: an opening would read the new log by the shift before (`misread_after`).
 ///
 /// An opening after a crash is of devices that were left, in any order, some of them missing (`IsReopened`). Beside
 /// them may be further ones, which the opening before left out (`IsFurther`): the mirror that is opened does not have
@@ -113,9 +114,10 @@ pub fn every_run()
     ensures content_told { ContentGoesAlongTold }
     ensures keeps_content { KeepsContent }
 
-    // An opening would read of the devices what the mirror keeps of them; chunks and roles are those of the
-    // first opening.
+    // An opening would read of the devices what the mirror keeps of them, but of those it may misread, of which
+    // none is in sync whose superblock is stored. Chunks and roles are those of the first opening.
     ensures read_as_kept { IsReadAsKeptInLives }
+    ensures reads_recorded { ReadsRecorded }
     ensures keeps_geometry { KeepsGeometry }
 {}
 
@@ -146,8 +148,9 @@ pub fn leaving_members()
     ensures missing { MissingLiesBehind }
 
     // A `re_add` that takes back a device that is still as it was left, takes back one of which the content
-    // is known in all chunks but the marked ones; or its offset is 0, and it lacks every chunk. Of a member
-    // whose log could not be stored it is asked that the log has no less then than before.
+    // is known in all chunks but the marked ones; or its offset is 0, and it lacks every chunk. It is asked
+    // that no opening misread the device, and of a member whose log could not be stored, that the log has no
+    // less then than before.
     ensures failed_joins { FailedJoins }
     ensures log_joins { LogJoins }
     ensures missing_joins { MissingJoins }

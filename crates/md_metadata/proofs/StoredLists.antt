@@ -1,5 +1,5 @@
 -- The list of a member is stored, step by step.
-use Rattle.std.proofs.Common.{◌≡◌, ℕ, ◌<◌, true, false, List, [], ◌∷◌, ◌++◌, set, slice_get, Option, Some, None, refl, sym, ap, ◌∙◌, arith, inl, inr, set-set}
+use Rattle.std.proofs.Common.{◌≡◌, ℕ, ◌<◌, true, false, List, [], ◌∷◌, ◌++◌, set, slice_get, Some, None, refl, sym, ap, ◌∙◌, arith, inl, inr, set-set}
 use Rattle.std.specs.Prelude.{Result, Ok, Err, MatchResult}
 use Rattle.md_model.specs.Events.{Event, MemberPart}
 use Rattle.md_bitmap.specs.Marks.{is_set}
@@ -16,7 +16,7 @@ use Rattle.md_state.specs.Steps.WriteMember.{IsNotDue}
 use Rattle.md_array.specs.Consistency.{IsConsistent}
 use Rattle.md_array.specs.Events.{Happens, listed_on}
 use Rattle.md_array.specs.InTurn.{HaltsAt, IsRecordDue, IsSectorDue}
-use Rattle.md_array.specs.Steps.StoreLog.{FailsToStoreLog, HasNoShift, RefusesStoreLog, StoresLog}
+use Rattle.md_array.specs.Steps.StoreLog.{FailsToStoreLog, RefusesStoreLog, StoresLog}
 use Rattle.md_array.specs.Steps.Record.{Records}
 use Rattle.md_array.proofs.General.Replaced.{of_set}
 use Rattle.md_array.proofs.Worlds.States.{in_sync_recorded}
@@ -24,19 +24,19 @@ use Rattle.md_metadata.specs.declared.fault.PartFault.{PartFault}
 use Rattle.md_metadata.specs.declared.fault.PartFault.TheVariants as part
 use Rattle.md_metadata.specs.Going.{StepsBy, only_others}
 use Rattle.md_metadata.specs.Storing.{IsFailureOf, IsRecording, IsSector, IsUpToDate, RecordingFails, RecordsOn, SectorFails, StaysReady, StoresOn}
-use Rattle.md_metadata.specs.StoringLists.{HasStoredList, IsListing, ListFails, LogsOn, StoresList, StoresListOf}
+use Rattle.md_metadata.specs.StoringLists.{IsListing, ListFails, LogsOn, StoresList, StoresListOf}
 use Rattle.md_metadata.proofs.Going.{GoesUnfailing, halts_as, halts_at_once, kept_before, step_as, step_loses, step_of, stops_as, two_lose, unfailing_halts, unfailing_loses, unfailing_on, unfailing_step, unfailing_two}
 use Rattle.md_metadata.proofs.Steps.{failure_step, faulty_after, fewer_after, halted_after, in_use_there, is_now, never_halted, same_but}
 use Rattle.md_metadata.proofs.StoredRecords.{header_due, now_in_sync}
 
 -- ---- the log
 module _ (old new : MirrorView) (k : ℕ) (sound : IsConsistent new) (pending : (o : PendingView) → IsPending old.array o → IsPending new.array o) where
-  pub log_stored : StoresLog k old new → (HasNoShift k old → Happens old (Event.StoreLog k (listed_on new k)) new) → LogsOn k old new
+  pub log_stored : StoresLog k old new → Happens old (Event.StoreLog k (listed_on new k)) new → LogsOn k old new
   log_stored r happens = record {
     step = record {
       of = refl;
       did = λ others. (refl, r);
-      happens = λ honest whole others in_flight. happens whole honest others in_flight;
+      happens = λ honest whole others in_flight. happens honest others in_flight;
       array = same_but old.array new.array k r.member (logged r.member) r.in_sync.member r.array refl;
       sound = sound;
       pending = pending;

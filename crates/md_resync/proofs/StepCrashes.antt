@@ -7,7 +7,7 @@ use Rattle.md_array.specs.InTurn.{AllLeftWhole, AllOf, InTurn, LeftWhole, Reques
 use Rattle.md_array.proofs.StepLemmas.Turns.{all_on}
 use Rattle.md_laws.specs.Left.{contents_of}
 use Rattle.md_laws.specs.Runs.{HasRested, MirrorRun, Moment, then_as}
-use Rattle.md_laws.specs.CallCrashes.{IsLeftWhole, IsUnshifted}
+use Rattle.md_laws.specs.CallCrashes.{IsLeftWhole}
 use Rattle.md_laws.specs.CopyCrashes.{copies_at}
 use Rattle.md_laws.proofs.Runs.CallRuns.{call_is_run}
 use Rattle.md_laws.proofs.Runs.MirrorRuns.{rests_run}
@@ -23,10 +23,6 @@ no_data : (e : Event) (requests : Requests) → IsResyncing e → WritesWhole e 
 no_data (Event.WriteMember n k) requests of = absurd of
 no_data (Event.WriteFails k (MemberPart.RequestData n)) requests of = absurd of
 no_data e requests of = tt
-
-no_log : (e : Event) (old : MirrorView) → IsResyncing e → IsUnshifted e old
-no_log (Event.StoreLog k listed) old of = absurd of
-no_log e old of = tt
 
 whole_event : (e : Event) (old new : MirrorView) → IsResyncing e → LeftWhole old e new
 whole_event (Event.StoreMarks k b) old new of = tt
@@ -79,7 +75,7 @@ crashes_in_steps (MirrorStep.Single e ∷ steps) h at Then t of left (inl here) 
     let rested : Moment = record h { mirror = t.0 } in
     let read : HasRested h rested = record { rests = t.3; is = refl } in
     let sound = run_keeps [] h rested read at in
-    elim (within_event t.7.0 rested sound t.1 t.2 left here e t.7.1 t.5 t.6 (no_data e h.requests of.0) (no_log e t.0 of.0) (left_any e t.0 t.1 left of.0 t.4)) [
+    elim (within_event t.7.0 rested sound t.1 t.2 left here e t.7.1 t.5 t.6 (no_data e h.requests of.0) (left_any e t.0 t.1 left of.0 t.4)) [
       | inl is_left ↦ record { events = []; steps = tt; at = rested; run = read; is_left = is_left }
       | inr so ↦ record {
         events = e ∷ [];

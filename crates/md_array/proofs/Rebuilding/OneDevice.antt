@@ -9,7 +9,7 @@ use Rattle.md_model.proofs.Puts.{by_same, put-hit, put-miss}
 use Rattle.md_model.proofs.Steps.Between.{between_step, in_flight_step}
 use Rattle.md_model.specs.Devices.{Stored}
 use Rattle.md_model.specs.Events.{Event, Step}
-use Rattle.md_model.specs.Runs.{failed_after, spoiled_after}
+use Rattle.md_model.specs.Runs.{failed_after}
 use Rattle.md_model.specs.Sectors.{put}
 use Rattle.md_model.specs.Steps.{with_device}
 use Rattle.md_model.specs.Worlds.{Request}
@@ -21,7 +21,7 @@ use Rattle.md_state.specs.View.{ArrayView, Disk, MirrorView, geometry_of}
 use Rattle.md_members.specs.DeviceWrites.Writes.{Write}
 use Rattle.md_array.specs.Consistency.{IsConsistent}
 use Rattle.md_array.specs.Events.{Does, IsChangedAlone, KeepsLists, WritesOnce}
-use Rattle.md_array.specs.ReadAsKept.{AreReadAsKept, IsReadAsKept}
+use Rattle.md_array.specs.ReadAsKept.{AreReadAsKept, IsReadAsKept, misread_after}
 use Rattle.md_array.specs.Worlds.{AreHonest, stored_of, stored_on, world_of, world_on}
 use Rattle.md_array.proofs.StepLemmas.Lend.{same_super, unrebuilt}
 use Rattle.md_array.proofs.StepLemmas.OneMember.{fits_like, like_itself}
@@ -150,9 +150,9 @@ module _ (k : ℕ) (m : MemberView) (old new : MirrorView) (c : IsConsistent old
     pub only_does : (e : Event) → AreHonest old.disks → WritesOnce e old.disks new.disks → AreInFlight a requests
         → Step (geometry_of a) (world_of old requests) e (world_of new requests) → KeepsLists e (world_of old requests) (world_of new requests)
         → ((failed_at : ℕ) → failed_after e (world_of new requests) failed_at ≡ failed_at)
-        → ((spoiled : ℕ → Bool) → IsTheSameBut k spoiled (spoiled_after e (world_of old requests) spoiled))
+        → ((spoiled : ℕ → Bool) → IsTheSameBut k spoiled (misread_after e a (world_of old requests) spoiled))
         → ((failed_at : ℕ) (spoiled : ℕ → Bool) → AtDevice k old.disks new.disks
-        (λ d n. IsReadAsKept a m failed_at (spoiled k) d.content → IsReadAsKept a m failed_at (spoiled_after e (world_of old requests) spoiled k) n.content))
+        (λ d n. IsReadAsKept a m failed_at (spoiled k) d.content → IsReadAsKept a m failed_at (misread_after e a (world_of old requests) spoiled k) n.content))
         → Does old requests e new requests
     only_does e honest writes in_flight step lists after others keeps = record {
       honest = only_honest honest;
@@ -165,6 +165,6 @@ module _ (k : ℕ) (m : MemberView) (old new : MirrorView) (c : IsConsistent old
       sound = only_is_consistent;
       lists = lists;
       read = λ failed_at spoiled are.
-          let then = spoiled_after e (world_of old requests) spoiled in
+          let then = misread_after e a (world_of old requests) spoiled in
           subst (λ n. AreReadAsKept new n then) (sym (after failed_at)) (only_read failed_at spoiled then (others spoiled) (keeps failed_at spoiled) are);
     }

@@ -1,5 +1,5 @@
 -- The log of a member in sync is stored: the mirror stays consistent, and that is the model's event.
-use Rattle.std.proofs.Common.{◌≡◌, ℕ, ◌*◌, ◌/◌, ◌↔◌, inl, inr, Bool, true, false, true≢false, not, ◌&&◌, ◌==◌, bit_and, if◌then◌else◌, nat_lt, List, [], ◌∷◌, ◌++◌, length, get_or, map, set, ◌<◌, slice_get, Option, Some, pos, refl, sym, ap, ◌∙◌, subst, arith}
+use Rattle.std.proofs.Common.{◌≡◌, ℕ, ◌*◌, ◌/◌, ◌↔◌, inl, inr, Bool, true, false, true≢false, not, ◌&&◌, ◌||◌, ◌==◌, bit_and, eqb-true, if◌then◌else◌, nat_lt, List, [], ◌∷◌, ◌++◌, length, get_or, map, set, ◌<◌, slice_get, Option, Some, pos, refl, sym, ap, ◌∙◌, subst, arith}
 use Rattle.std.proofs.lemmas.Bool.{and_from, and_parts}
 use Rattle.std.proofs.lemmas.List.{map-set}
 use Rattle.std.proofs.lemmas.Option.{same_Some, slice_get_within}
@@ -24,7 +24,7 @@ use Rattle.md_model.specs.Sectors.{put}
 use Rattle.md_model.specs.Steps.{GrowsTo}
 use Rattle.md_model.specs.Worlds.{Request, World}
 use Rattle.md_model.proofs.Cases.{by_test}
-use Rattle.md_model.proofs.Puts.{put-self}
+use Rattle.md_model.proofs.Puts.{put-hit, put-miss, put-self}
 use Rattle.md_model.proofs.Steps.Between.{between_step, in_flight_step}
 use Rattle.md_inflight.specs.Requests.Pending.{PendingView}
 use Rattle.md_faults.specs.declared.step_fault.StoreFault.{StoreFault}
@@ -42,8 +42,8 @@ use Rattle.md_super.specs.Log.{has_bad_block_log}
 use Rattle.md_members.specs.DeviceWrites.Writes.{DoesWrites, FailsInWrites, Write}
 use Rattle.md_array.specs.Consistency.{HasPlaces, HasSuper, IsConsistent}
 use Rattle.md_array.specs.Events.{Happens, listed_on}
-use Rattle.md_array.specs.Steps.StoreLog.{AreWritten, FailsToStoreLog, HasNoShift, IfLogFailed, RefusesStoreLog, StoresLog}
-use Rattle.md_array.specs.ReadAsKept.{AreReadAsKept, HasOwnSuper, IsReadAsKept}
+use Rattle.md_array.specs.Steps.StoreLog.{AreWritten, FailsToStoreLog, IfLogFailed, RefusesStoreLog, StoresLog}
+use Rattle.md_array.specs.ReadAsKept.{AreReadAsKept, HasOwnSuper, IsReadAsKept, has_shift}
 use Rattle.md_array.specs.Worlds.{block_on, header_on, is_listed, is_listed_next, is_logged, list_bit, lists_of, reads_log_on, stored_of, stored_on, super_in, world_of, world_on}
 use Rattle.md_array.proofs.General.Honesty.{tried_honest}
 use Rattle.md_array.proofs.General.Indices.{at_set_same, set_itself}
@@ -177,9 +177,10 @@ module _ (k : ℕ) (old new : MirrorView) (c : IsConsistent old) (r : StoresLog 
         (λ there. log_alone a m d.content e.content parts there (outside there))
         (λ none. λ i. record (stored_of a m (same_device none i).content) { listed = (stored_of a m e.content).listed })
 
-    read_logged : HasNoShift k old → (failed_at : ℕ) (is_spoiled : Bool) → IsReadAsKept a m failed_at is_spoiled d.content → IsReadAsKept a n failed_at is_spoiled e.content
-    read_logged unshifted failed_at is_spoiled had = record {
-      super = λ un. own_beside a m d.content e.content block_same n.superblock refl refl refl refl (unshifted m at) (had.super un);
+    -- an opening reads what is kept, if the log had no shift
+    read_logged : (failed_at : ℕ) (before after : Bool) → (after ≡ false → (own.bblog_shift ≡ 0) × (before ≡ false)) → IsReadAsKept a m failed_at before d.content → IsReadAsKept a n failed_at after e.content
+    read_logged failed_at before after reads had = record {
+      super = λ un. own_beside a m d.content e.content block_same n.superblock refl refl refl refl (reads un).0 (had.super (reads un).1);
       header = λ un. elim (had.header un) [
         | inl width ↦ inl (ap (λ (h : List ℕ). number_at 4 52 h / 512) header_same ∙ width)
         | inr gone ↦ absurd (true≢false (sym (in_sync_recorded m.state r.in_sync.in_sync) ∙ gone.0))
@@ -294,21 +295,34 @@ module _ (k : ℕ) (old new : MirrorView) (c : IsConsistent old) (r : StoresLog 
   pub logged_is_pending : (p : PendingView) → IsPending old.array p → IsPending new.array p
   logged_is_pending = own_is_pending k m n write.0 old new changes
 
-  read_all : HasNoShift k old → (failed_at : ℕ) (spoiled : ℕ → Bool) → AreReadAsKept old failed_at spoiled → AreReadAsKept new failed_at spoiled
-  read_all unshifted failed_at spoiled are j e x found member =
+  -- of a log that had a shift the member is one that an opening misreads
+  had_none : has_shift a k ≡ false → own.bblog_shift ≡ 0
+  had_none none = by_test (own.bblog_shift == 0) (eqb-true own.bblog_shift 0)
+      (λ some. absurd (true≢false (sym (ap not some) ∙ sym (member_there a k m false (λ x. not (x.superblock.bblog_shift == 0)) at) ∙ none)))
+
+  reads_now : (before : Bool) → (has_shift a k || before) ≡ false → (own.bblog_shift ≡ 0) × (before ≡ false)
+  reads_now before reads = by_test (has_shift a k)
+      (λ some. absurd (true≢false (sym (ap (λ (b : Bool). b || before) some) ∙ reads)))
+      (λ none. (had_none none, sym (ap (λ (b : Bool). b || before) none) ∙ reads))
+
+  read_all : (failed_at : ℕ) (misread : ℕ → Bool) → AreReadAsKept old failed_at misread → AreReadAsKept new failed_at (put k (has_shift a k || misread k) misread)
+  read_all failed_at misread are j e x found member =
       let inside = slice_get_within a.members k m at in
       let many = c.fits.as_many in
       let d = got_within old.disks k (omega arith) in
-      subst (λ (v : ArrayView). IsReadAsKept v x failed_at (spoiled j) e.content) (sym r.array)
+      let after = put k (has_shift a k || misread k) misread in
+      subst (λ (v : ArrayView). IsReadAsKept v x failed_at (after j) e.content) (sym r.array)
       (of_set a.members k j n x (ap (λ (v : ArrayView). slice_get v.members j) (sym r.array) ∙ member)
       (λ here x_is.
       let is : slice_get new.disks k ≡ Some e = ap (slice_get new.disks) (sym here) ∙ found in
-      let had = read_logged d.0 e d.1 is unshifted failed_at (spoiled j) (subst (λ (i : ℕ). IsReadAsKept a m failed_at (spoiled i) d.0.content) (sym here) (are k d.0 m d.1 at)) in
-      subst (λ (z : MemberView). IsReadAsKept (record a { members = set a.members k n }) z failed_at (spoiled j) e.content) (sym x_is) (record { super = had.super; header = had.header }))
-      (λ apart there. let had = are j e x (sym (changes.disks.others j apart) ∙ found) there in record { super = had.super; header = had.header }))
+      let had = read_logged d.0 e d.1 is failed_at (misread k) (after j) (λ reads. reads_now (misread k) (sym (ap after here ∙ put-hit k (has_shift a k || misread k) misread) ∙ reads)) (are k d.0 m d.1 at) in
+      subst (λ (z : MemberView). IsReadAsKept (record a { members = set a.members k n }) z failed_at (after j) e.content) (sym x_is) (record { super = had.super; header = had.header }))
+      (λ apart there.
+      let had = subst (λ b. IsReadAsKept a x failed_at b e.content) (sym (put-miss k (has_shift a k || misread k) misread j apart)) (are j e x (sym (changes.disks.others j apart) ∙ found) there) in
+      record { super = had.super; header = had.header }))
 
-  pub log_happens : HasNoShift k old → Happens old (Event.StoreLog k (listed_on new k)) new
-  log_happens unshifted honest requests in_flight =
+  pub log_happens : Happens old (Event.StoreLog k (listed_on new k)) new
+  log_happens honest requests in_flight =
       let t = there_is old k m write.0 new.disks c at write.1 in
       let event : Event = Event.StoreLog k (listed_on new k) in
       let happens = log_step t.old t.new t.was t.is (honest k t.old t.was) requests in
@@ -322,7 +336,7 @@ module _ (k : ℕ) (old new : MirrorView) (c : IsConsistent old) (r : StoresLog 
         written = in_flight_step (geometry_of a) (world_of old requests) event (world_of new requests) happens;
         sound = logged_is_consistent;
         lists = tt;
-        read = read_all unshifted;
+        read = read_all;
       }
 
 -- ---- its write fails, and the member is faulty

@@ -12,7 +12,7 @@ use Rattle.md_model.specs.Failures as failures
 use Rattle.md_model.specs.Failures.{MayFail}
 use Rattle.md_model.specs.Events as events
 use Rattle.md_model.specs.Events.{Event, Step}
-use Rattle.md_model.specs.Runs.{failed_after, spoiled_after}
+use Rattle.md_model.specs.Runs.{failed_after}
 use Rattle.md_model.proofs.Steps.Between.{between_step, in_flight_step}
 use Rattle.md_members.specs.DeviceWrites.Writes.{Write}
 use Rattle.md_kept_members.specs.View.{MemberView}
@@ -27,7 +27,7 @@ use Rattle.md_state.specs.Requests.{AreInFlight}
 use Rattle.md_state.specs.Trying.{FailsWriting}
 use Rattle.md_array.specs.Consistency.{IsConsistent}
 use Rattle.md_array.specs.Events.{Does, KeepsLists, WritesOnce}
-use Rattle.md_array.specs.ReadAsKept.{AreReadAsKept, HasOwnSuper}
+use Rattle.md_array.specs.ReadAsKept.{AreReadAsKept, HasOwnSuper, misread_after}
 use Rattle.md_array.specs.Worlds.{AreHonest, kind_of, world_of, world_on}
 use Rattle.md_array.proofs.General.Honesty.{tried_honest}
 use Rattle.md_array.proofs.StepLemmas.AfterFailure.{failed_is_consistent}
@@ -111,7 +111,7 @@ module _ (k : ℕ) (w : Write) (old new : MirrorView) (is : IsConsistent old) (f
     -- by such an event the mirror goes to its next world
     pub does_failing : (e : Event) → AreHonest old.disks → WritesOnce e old.disks new.disks → AreInFlight a requests → Step (geometry_of a) before e (world_of new requests) → KeepsLists e before (world_of new requests)
         → ((failed_at : ℕ) → failed_after e (world_of new requests) failed_at ≡ new.array.shared.events)
-        → ((spoiled : ℕ → Bool) → spoiled_after e before spoiled ≡ spoiled)
+        → ((spoiled : ℕ → Bool) → misread_after e a before spoiled ≡ spoiled)
         → AtDevice k old.disks new.disks (λ d n. HasOwnSuper a.shared m.superblock d.content → HasOwnSuper a.shared m.superblock n.content)
         → Does old requests e new requests
     does_failing e honest writes in_flight step lists after same keeps = record {
@@ -125,7 +125,7 @@ module _ (k : ℕ) (w : Write) (old new : MirrorView) (is : IsConsistent old) (f
       sound = failed_is_consistent k w old new is fails;
       lists = lists;
       read = λ failed_at spoiled are.
-          let then = spoiled_after e before spoiled in
+          let then = misread_after e a before spoiled in
           subst (λ n. AreReadAsKept new n then) (sym (after failed_at ∙ ap (λ (x : ArrayView). x.shared.events) array_failed))
           (subst (λ (s : ℕ → Bool). AreReadAsKept new (a.shared.events + 1) s) (sym (same spoiled))
           (subst (λ (x : ArrayView). AreReadAsKept (record { disks = new.disks; array = x }) (a.shared.events + 1) spoiled) (sym array_failed)

@@ -7,7 +7,7 @@ use Rattle.md_array.specs.Consistency.{IsConsistent}
 use Rattle.md_array.specs.Events.{Does, Happens, KeepsLists, WritesOnce}
 use Rattle.md_array.specs.Fits.{Fits}
 use Rattle.md_array.specs.Steps.NoteResynced.{AllAgreeWhereMarked, BecomesResynced, IsHonestMember, NotesResynced, sector_of, AreNoted}
-use Rattle.md_array.specs.ReadAsKept.{AreReadAsKept}
+use Rattle.md_array.specs.ReadAsKept.{AreReadAsKept, misread_after}
 use Rattle.md_array.specs.Worlds.{AreHonest, world_of}
 use Rattle.md_array.proofs.StepLemmas.OneMember.{stored_there}
 use Rattle.md_array.proofs.Worlds.ReadAsKept.{same_array, same_member, unwritten_read}
@@ -17,7 +17,7 @@ use Rattle.md_array.proofs.Worlds.InSync.{in_sync_is}
 use Rattle.md_model.specs.Devices.{Stored}
 use Rattle.md_model.specs.Events.{Event, Step}
 use Rattle.md_model.specs.Resyncing as model
-use Rattle.md_model.specs.Runs.{failed_after, spoiled_after}
+use Rattle.md_model.specs.Runs.{failed_after}
 use Rattle.md_model.specs.Worlds as worlds
 use Rattle.md_model.specs.Worlds.{Request, World}
 use Rattle.md_model.proofs.Steps.Between.{between_step, in_flight_step}
@@ -79,7 +79,7 @@ module _ (is : Bool) (old new : MirrorView) (c : IsConsistent old) (t : NotesRes
   -- an event by which it is
   does_marking : (e : Event) → AreHonest old.disks → (requests : ℕ → Option Request) → AreInFlight a requests → new.disks ≡ old.disks
       → Step (geometry_of a) (world_of old requests) e (world_of new requests) → KeepsLists e (world_of old requests) (world_of new requests) → ((failed_at : ℕ) → failed_after e (world_of new requests) failed_at ≡ failed_at)
-      → ((spoiled : ℕ → Bool) → spoiled_after e (world_of old requests) spoiled ≡ spoiled)
+      → ((spoiled : ℕ → Bool) → misread_after e a (world_of old requests) spoiled ≡ spoiled)
       → WritesOnce e old.disks new.disks → Does old requests e new requests
   does_marking e honest requests in_flight same step lists after alike writes = record {
     honest = subst AreHonest (sym t.disks) honest;
@@ -91,7 +91,7 @@ module _ (is : Bool) (old new : MirrorView) (c : IsConsistent old) (t : NotesRes
     written = in_flight_step (geometry_of a) (world_of old requests) e (world_of new requests) step;
     sound = marked_is_consistent;
     lists = lists;
-    read = λ failed_at spoiled are. subst (λ n. AreReadAsKept new n (spoiled_after e (world_of old requests) spoiled)) (sym (after failed_at))
+    read = λ failed_at spoiled are. subst (λ n. AreReadAsKept new n (misread_after e a (world_of old requests) spoiled)) (sym (after failed_at))
         (subst (AreReadAsKept new failed_at) (sym (alike spoiled))
         (unwritten_read old new failed_at spoiled t.disks
         (same_array a new.array (ap (λ (x : ArrayView). x.shared) t.array) (ap (λ (x : ArrayView). x.chunks) t.array))

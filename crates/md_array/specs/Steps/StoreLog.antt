@@ -9,7 +9,7 @@ use Rattle.md_faults.specs.declared.step_fault.StoreFault.{StoreFault}
 use Rattle.md_faults.specs.declared.step_fault.StoreFault.TheVariants.{Halted, NotActive, MemberFailed}
 use Rattle.md_kept_members.specs.OnDevices.Storing.{log_writes}
 use Rattle.md_state.specs.DiskWrites.{IsWritten}
-use Rattle.md_state.specs.Members.{IsInSync, IsMember}
+use Rattle.md_state.specs.Members.{IsInSync}
 use Rattle.md_state.specs.Steps.StoreLog.{logged}
 use Rattle.md_state.specs.Trying.{FailsWriting, HaltsWriting, RefusesHalted}
 use Rattle.md_state.specs.View.{Disk, MirrorView}
@@ -53,15 +53,10 @@ RefusesStoreLog k old new Halted = RefusesHalted old new ⊎ HaltsStoringLog k o
 RefusesStoreLog k old new NotActive = ⊥
 RefusesStoreLog k old new (MemberFailed j) = (j ≡ k) × FailsToStoreLog k old new
 
--- The log was read without a shift, or stored since. Of a crash between the log and the superblock of one that was read with another shift
--- nothing is said: so the two are no events of their own there.
-abbrev pub HasNoShift : ℕ → MirrorView → Type 0
-HasNoShift k v = (m : MemberView) → IsMember v.array k m → m.superblock.bblog_shift ≡ 0
-
 abbrev pub IfLogFailed : Type 0 → StoreFault → Type 0
 IfLogFailed P (MemberFailed j) = P
 IfLogFailed P _ = ⊤
 
 abbrev pub StoreLogHappens : ℕ → MirrorView → MirrorView → {T : Type 0} → Result T StoreFault → Type 0
 StoreLogHappens k old new result =
-    MatchResult result (λ _. HasNoShift k old → Happens old (Event.StoreLog k (listed_on new k)) new) (IfLogFailed (Happens old (Event.WriteFails k MemberPart.Log) new))
+    MatchResult result (λ _. Happens old (Event.StoreLog k (listed_on new k)) new) (IfLogFailed (Happens old (Event.WriteFails k MemberPart.Log) new))

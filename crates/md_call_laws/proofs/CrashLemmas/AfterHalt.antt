@@ -64,6 +64,7 @@ module _ (t : Moment) (left disks : List Disk) (same : contents_of disks ≡ con
         found = d.found;
         again = d.again;
         unspoiled = d.unspoiled;
+        readable = d.readable;
         recorded = record { device = r.device; place = r.place; there = r.there; recorded = r.recorded; wide = wide_over found d.at r.device r.place r.wide };
       }
 

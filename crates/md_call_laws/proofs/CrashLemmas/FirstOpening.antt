@@ -101,6 +101,7 @@ module _ (before : List Disk) (m : MirrorView) (start : IsStart before m) where
           found = λ j k e. let x = is_placed (length these) j k e in subst (λ (i : ℕ). in_place (length these) i ≡ Some j) x.0 (placed (length these) j x.1);
           again = λ k j e. let x = is_placed (length these) k j e in subst (IsFoundAgain a m.disks these k) x.0 (found_again k x.1);
           unspoiled = λ k j e. refl;
+          readable = λ k j e. refl;
           recorded = record {
             device = one.one;
             place = one.one;

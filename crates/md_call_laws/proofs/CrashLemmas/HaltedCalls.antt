@@ -69,9 +69,9 @@ module _ (t : Moment) (at : IsSoundAt t) (new : MirrorView) (left : List Disk) (
     | inl same ↦ inr (inl (inl same))
     | inr after ↦ inr (inr (one_step (Event.WriteFails k (MemberPart.BitmapSector b)) (Event.StoreMarks k b) refl after.0 after.1.1 after.2))
   ]
-  by_halt (Event.WriteFails k MemberPart.Log) h asked = elim (crashes_at_halted_log k t.mirror new (contents_of left) at.sound at.honest h h.canonical within asked.1) [
+  by_halt (Event.WriteFails k MemberPart.Log) h asked = elim (crashes_at_halted_log k t.mirror new (contents_of left) at.sound at.honest h h.canonical within asked) [
     | inl same ↦ inr (inl (inl same))
-    | inr after ↦ inr (inr (one_step (Event.WriteFails k MemberPart.Log) (Event.StoreLog k (listed_on after.0 k)) (listed_on after.0 k, refl) after.0 (after.1.1 asked.0) after.2))
+    | inr after ↦ inr (inr (one_step (Event.WriteFails k MemberPart.Log) (Event.StoreLog k (listed_on after.0 k)) (listed_on after.0 k, refl) after.0 after.1.1 after.2))
   ]
   by_halt (Event.WriteFails k (MemberPart.CopiedSectors s n)) h asked =
       let part = crashes_at_halted_copies k s n t.mirror new (contents_of left) at.sound at.honest h within asked in

@@ -61,17 +61,17 @@ module _ (t : Moment) (at : IsSoundAt t) (k : ℕ) (w : Write) (disks : List Dis
   halted_kept m spoiled content r = record { super = r.super; header = r.header }
 
   module _ (m : MemberView) (is_member : IsMember a k m)
-      (reads : (d e : Disk) → slice_get t.mirror.disks k ≡ Some d → slice_get disks k ≡ Some e → IsReadAsKept a m t.failed_at (t.spoiled k) e.content) where
-    read : (j : ℕ) (e : Disk) (n : MemberView) → slice_get disks j ≡ Some e → IsMember a j n → IsReadAsKept (record a { halted = true }) n t.failed_at (t.spoiled j) e.content
+      (reads : (d e : Disk) → slice_get t.mirror.disks k ≡ Some d → slice_get disks k ≡ Some e → IsReadAsKept a m t.failed_at (t.misread k) e.content) where
+    read : (j : ℕ) (e : Disk) (n : MemberView) → slice_get disks j ≡ Some e → IsMember a j n → IsReadAsKept (record a { halted = true }) n t.failed_at (t.misread j) e.content
     read j e n there is = by_same j k
         (λ same.
         let here : slice_get disks k ≡ Some e = sym (ap (slice_get disks) same) ∙ there in
         let d = was_there e here in
         let it : n ≡ m = same_Some n m (sym is ∙ ap (slice_get a.members) same ∙ is_member) in
-        subst (λ (i : ℕ). IsReadAsKept (record a { halted = true }) n t.failed_at (t.spoiled i) e.content) (sym same)
-        (subst (λ (x : MemberView). IsReadAsKept (record a { halted = true }) x t.failed_at (t.spoiled k) e.content) (sym it)
-        (halted_kept m (t.spoiled k) e.content (reads d.0 e d.1 here))))
-        (λ apart. halted_kept n (t.spoiled j) e.content (at.read j e n (sym (tried.others j apart) ∙ there) is))
+        subst (λ (i : ℕ). IsReadAsKept (record a { halted = true }) n t.failed_at (t.misread i) e.content) (sym same)
+        (subst (λ (x : MemberView). IsReadAsKept (record a { halted = true }) x t.failed_at (t.misread k) e.content) (sym it)
+        (halted_kept m (t.misread k) e.content (reads d.0 e d.1 here))))
+        (λ apart. halted_kept n (t.misread j) e.content (at.read j e n (sym (tried.others j apart) ∙ there) is))
 
     pub sound_over : IsSoundAt (halted_over t disks)
     sound_over = record { sound = consistent; read = read; honest = tried_honest k w t.mirror.disks disks tried at.honest; in_flight = at.in_flight }

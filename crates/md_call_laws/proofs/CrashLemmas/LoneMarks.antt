@@ -93,7 +93,7 @@ module _ (t : Moment) (at : IsSoundAt t) (left : List Disk) (l : IsLeftByLoneMar
       (λ d e was is.
       let x = got_like left disks (sym same_contents) k e is in
       let wide = subst (λ (c : List ℕ). HasWidth a.chunks.sectors m.superblock c) x.2 (l.header x.0 x.1) in
-      stays a m t.failed_at (t.spoiled k) d.content e.content
+      stays a m t.failed_at (t.misread k) d.content e.content
       (block_beside_marks a m d.content e.content (has_parts d was) l.block (low d was) (outside d e was is))
       (log_beside_marks a m d.content e.content (has_parts d was) l.block (low d was) (outside d e was is))
       (λ _. wide) (at.read k d m was is_member))

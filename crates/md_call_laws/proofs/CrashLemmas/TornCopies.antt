@@ -91,7 +91,7 @@ module _ (t : Moment) (at : IsSoundAt t) (left : List Disk) (l : IsLeftByCopy t 
 
   pub sound_torn : IsSoundAt (halted_over t disks)
   sound_torn = sound_over t at k w disks tried m is_member
-      (λ d e was is. read_beside_data a m d.content e.content (parts_of t.mirror at.sound k d m was is_member) sector many l.call.copy.may.inside (outside d e was is) t.failed_at (t.spoiled k) (at.read k d m was is_member))
+      (λ d e was is. read_beside_data a m d.content e.content (parts_of t.mirror at.sound k d m was is_member) sector many l.call.copy.may.inside (outside d e was is) t.failed_at (t.misread k) (at.read k d m was is_member))
 
   abbrev stored : ℕ → Stored
   stored = (world_of t.mirror t.requests).stored

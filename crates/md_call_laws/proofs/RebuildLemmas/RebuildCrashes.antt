@@ -24,7 +24,7 @@ use Rattle.md_array.specs.Worlds.{AreHonest, block_on}
 use Rattle.md_array.proofs.StepLemmas.Turns.{all_on, all_such}
 use Rattle.md_laws.specs.Left.{IsLeftByCrash, IsLeftEnrolled, IsLeftEnrolling, IsLeftFilling, IsLeftPreparing, IsLeftRecording, IsLeftTargeted, IsLeftTargeting, contents_of}
 use Rattle.md_laws.specs.Runs.{Moment, then_as}
-use Rattle.md_laws.specs.CallCrashes.{IsLeftWhole, IsUnshifted, CrashesIn}
+use Rattle.md_laws.specs.CallCrashes.{IsLeftWhole, CrashesIn}
 use Rattle.md_laws.specs.ReadAfterCrashes.{ReadsAs}
 use Rattle.md_laws.specs.CrashesWithin.{MayAllBeLeft}
 use Rattle.md_laws.proofs.Runs.Moments.{IsSoundAt, run_then}
@@ -41,7 +41,6 @@ use Rattle.md_copy.specs.Readying.{AdmitsAfter, AdmitsFirst, FailsAdmission, Rea
 use Rattle.md_copy.specs.RebuildEvents.{FailsAtMarks}
 use Rattle.md_copy.specs.Rebuilding.{EndsStoring}
 use Rattle.md_copy.proofs.Ready.Lowered.{lowered_but}
-use Rattle.md_copy.specs.Rebuilt.{failed_of}
 use Rattle.md_copy.specs.Storing.{FailsToRecordTarget, StoresFirst}
 use Rattle.md_copy.specs.Stretches.{AreRecorded, MakesStretch, RecordsStretch, slots_after, slots_before}
 use Rattle.md_copy.proofs.Held.HeldRecorded.{out_of_sync, target_same}
@@ -56,7 +55,6 @@ use Rattle.md_copy.proofs.Leads.UnfinishedEnrol.{prepares}
 use Rattle.md_call_laws.specs.Rebuilds.RebuildCrashes.{HasFilled, HasPassed, HasStretched, IsCrashAfter, IsCrashBefore, IsSuperWhole, CrashesAdmitting, CrashesAtCheckpoint, CrashesAtFailedCheckpoint, CrashesCopying, CrashesEnrolling, CrashesFilling, CrashesFirst, CrashesInListed, CrashesInPass, CrashesInPasses, CrashesInStretch, CrashesInStretches, CrashesListing, CrashesPassUnrecorded, CrashesReadying, CrashesRecording, CrashesStoring, CrashesUnadmitted, CrashesUnenrolled, CrashesUnrecorded}
 use Rattle.md_call_laws.proofs.RebuildLemmas.RebuildSteps.{Before, ComesUnspoiled, admission_comes, begun_comes, checkpoint_comes, fill_comes, filled_comes, listed_comes, lowered_comes, noted_comes, noting_comes, passes_come, recorded_comes, recorded_unspoils, so_last, stored_comes, stores_come, stretch_comes, stretches_come, then_unspoiled, until_last, whole_stores}
 use Rattle.md_call_laws.proofs.RebuildLemmas.Steady.{Comes, IsSteadyAt, comes_then, end, end_steady, steady_at}
-use Rattle.md_call_laws.proofs.RebuildLemmas.Unshifted.{Unshifted, un_noted, unshifted_before_last, unshifted_begun, unshifted_first, unshifted_later, whole_stores_lists}
 
 -- ---- who is in sync
 -- was so before
@@ -87,10 +85,6 @@ no_data : (e : Event) (requests : Requests) → IsOnMembers e → WritesWhole e 
 no_data (Event.WriteMember n k) requests of = absurd of
 no_data (Event.WriteFails k (MemberPart.RequestData n)) requests of = absurd of
 no_data e requests of = tt
-
-no_shift : (e : Event) (old new : MirrorView) → LeftWhole old e new → IsUnshifted e old
-no_shift (Event.StoreLog k listed) old new whole = whole
-no_shift e old new whole = tt
 
 -- a crash of such a run, and who is in sync then
 pub record CrashesKeeping (Of : Event → Type 0) (t : Moment) (left : List Disk) : Type 0 where
@@ -138,7 +132,7 @@ pub crashes_in : (Of : Event → Type 0) → ((e : Event) → Of e → IsOnMembe
 crashes_in Of is [] previous t Then turn of at whole left stop = absurd stop
 crashes_in Of is (e ∷ es) previous t Then turn of at whole left (inl here) =
     crashes_here Of e of.0 t left (λ so. keeps_event e previous t so.mid so.between (is e of.0) turn.2 so.did (λ _ _. so.does))
-    (within_event previous t at turn.0 turn.1 left here.0 e turn.2 turn.3 turn.4 (no_data e t.requests (is e of.0)) (no_shift e t.mirror turn.0 whole.0) here.1)
+    (within_event previous t at turn.0 turn.1 left here.0 e turn.2 turn.3 turn.4 (no_data e t.requests (is e of.0)) here.1)
 crashes_in Of is (e ∷ es) previous t Then turn of at whole left (inr later) =
     let does = turn.4 at.honest whole.0 in
     stops_later Of e of.0 t turn.0 turn.1 does (keeps_event e previous t turn.0 turn.1 (is e of.0) turn.2 turn.3 turn.4) left
@@ -438,13 +432,13 @@ noted_out target chunks p before after v x noted so h notes =
     recovering_is_out target noted (ready_noted target p.failed x noted notes (recorded_ready target chunks p before after v x h so.ready so.held so.lacking)).recovering
 
 module _ (target : ℕ) (chunks : List ℕ) (p : PassView) (before after : Bitmap) (t : Moment) (at : IsSteadyAt t) (so : HoldsSoFar target t.mirror before chunks) (new : MirrorView)
-    (h : ListsPass target chunks p before after t.mirror new) (un : Unshifted p.failed t.mirror.array) where
+    (h : ListsPass target chunks p before after t.mirror new) where
   pub listing_crash : (left : List Disk) (in_flight : AreInFlight h.lists.noted.array t.requests)
       → CrashesIn h.lists.stores.goes.events None h.lists.noted t.requests (λ v r. (v ≡ new) × (r ≡ t.requests)) (h.lists.stores.goes.leads None t.requests in_flight) left → IsCrashBefore target t left
   listing_crash left in_flight stop =
       let c = noting_comes target chunks p before after t at so new h in
       let goes = h.lists.stores.goes in
-      let whole = whole_stores_lists p.failed h.lists.noted new h.lists.stores (un_noted target chunks p before after t.mirror new h p.failed un) t.requests in_flight in
+      let whole = whole_stores_lists p.failed h.lists.noted new h.lists.stores t.requests in_flight in
       later_crash target t c left
       (lists_stop target (end c) (end_steady c at) (noted_out target chunks p before after t.mirror h.recorded h.lists.noted so h.records h.lists.notes) new goes in_flight whole left stop)
 
@@ -456,26 +450,25 @@ module _ (target : ℕ) (chunks : List ℕ) (p : PassView) (before after : Bitma
 
 -- ---- within one of several passes
 pub passes_stop : (target : ℕ) (ps : List PassView) (chunks rest : List ℕ) (before after : Bitmap) (t : Moment) → IsSteadyAt t → HoldsSoFar target t.mirror before chunks
-    → (new : MirrorView) (h : AreListedPasses target ps chunks rest before after t.mirror new) → Unshifted (failed_of ps) t.mirror.array
+    → (new : MirrorView) (h : AreListedPasses target ps chunks rest before after t.mirror new)
     → (left : List Disk) → CrashesInPasses IsSuperWhole target ps chunks rest before after t.mirror new h t.requests left → IsCrashBefore target t left
-passes_stop target [] chunks rest before after t at so new h un left stop = absurd stop
-passes_stop target (p ∷ ps) chunks rest before after t at so new h un left (inl here) =
-    listed_crash target chunks p before h.0 t at so h.1 h.2 (unshifted_first p.failed (failed_of ps) t.mirror.array un) left here
-passes_stop target (p ∷ ps) chunks rest before after t at so new h un left (inr later) =
-    let c = listed_comes target chunks p before h.0 t at so h.1 h.2 (unshifted_first p.failed (failed_of ps) t.mirror.array un) in
+passes_stop target [] chunks rest before after t at so new h left stop = absurd stop
+passes_stop target (p ∷ ps) chunks rest before after t at so new h left (inl here) =
+    listed_crash target chunks p before h.0 t at so h.1 h.2 left here
+passes_stop target (p ∷ ps) chunks rest before after t at so new h left (inr later) =
+    let c = listed_comes target chunks p before h.0 t at so h.1 h.2 in
     later_crash target t c left
-    (passes_stop target ps (failed_chunks p) rest h.0 after (end c) (end_steady c at) (listed_holds target chunks p before h.0 t.mirror h.1 h.2 so) new h.3
-    (unshifted_later target chunks p ps before h.0 t.mirror h.1 h.2 un) left later)
+    (passes_stop target ps (failed_chunks p) rest h.0 after (end c) (end_steady c at) (listed_holds target chunks p before h.0 t.mirror h.1 h.2 so) new h.3 left later)
 
 module _ (target : ℕ) (m : MemberView) (passes : List PassView) (before after : Bitmap) (t : Moment) (at : IsSteadyAt t) (so : HoldsSoFar target t.mirror before (missing_chunks t.mirror.array m)) (new : MirrorView)
-    (h : CopiesAll target m passes before after t.mirror new) (un : Unshifted (failed_of h.listed) t.mirror.array) where
+    (h : CopiesAll target m passes before after t.mirror new) where
   pub copying_crash : (left : List Disk) → CrashesCopying IsSuperWhole target m passes before after t.mirror new h t.requests left → IsCrashBefore target t left
   copying_crash left stop = elim stop [
-    | inl within ↦ passes_stop target h.listed (missing_chunks t.mirror.array m) h.left before h.mid t at so h.now h.passed un left within
+    | inl within ↦ passes_stop target h.listed (missing_chunks t.mirror.array m) h.left before h.mid t at so h.now h.passed left within
     | inr within ↦
-        (let c = until_last target m passes before after t at so new h un in
+        (let c = until_last target m passes before after t at so new h in
         later_crash target t c left
-        (pass_crash target h.left h.last h.mid after (end c) (end_steady c at) (so_last target m passes before after t at so new h un) new h.records left within))
+        (pass_crash target h.left h.last h.mid after (end c) (end_steady c at) (so_last target m passes before after t at so new h) new h.records left within))
   ]
 
 -- ---- after such passes
@@ -489,11 +482,8 @@ module _ (target : ℕ) (chunks : List ℕ) (copied : Bitmap) (t : Moment) (at :
   so_ready : HoldsSoFar target h.ready h.none first
   so_ready = begin_holds target t.mirror h.ready h.none h.begins
 
-  unshifted : Unshifted (failed_of h.passes) h.ready.array
-  unshifted = unshifted_begun target (failed_of h.passes) t.mirror h.ready h.none h.begins h.unshifted
-
   pub passed : Comes (Before target) t now
-  passed = comes_then readied (passes_come target h.passes first chunks h.none copied (end readied) (end_steady readied at) so_ready now h.passed unshifted)
+  passed = comes_then readied (passes_come target h.passes first chunks h.none copied (end readied) (end_steady readied at) so_ready now h.passed)
 
   pub passed_holds : HoldsSoFar target now copied chunks
   passed_holds = chain_holds target h.passes first chunks h.none copied h.ready now h.passed so_ready
@@ -516,17 +506,12 @@ module _ (target : ℕ) (kept orphans : Bitmap) (t : Moment) (at : IsSteadyAt t)
   pub so_begun : HoldsSoFar target h.ready h.none (missing_chunks h.ready.array h.begins.now)
   so_begun = begin_holds target t.mirror h.ready h.none h.begins
 
-  pub un_begun : Unshifted (failed_of c.listed) h.ready.array
-  un_begun =
-      unshifted_begun target (failed_of c.listed) t.mirror h.ready h.none h.begins
-      (unshifted_before_last target h.begins.now h.passes h.none h.copied h.ready filled_at c t.mirror.array h.unshifted)
-
   -- by its last checkpoint
   pub filled_unspoiled : ComesUnspoiled target t filled_at
   filled_unspoiled =
-      let x = comes_then begun (until_last target h.begins.now h.passes h.none h.copied (end begun) (end_steady begun at) so_begun filled_at c un_begun) in
+      let x = comes_then begun (until_last target h.begins.now h.passes h.none h.copied (end begun) (end_steady begun at) so_begun filled_at c) in
       then_unspoiled target t x
-      (recorded_unspoils target c.left c.last c.mid h.copied (end x) (end_steady x at) (so_last target h.begins.now h.passes h.none h.copied (end begun) (end_steady begun at) so_begun filled_at c un_begun) filled_at c.records)
+      (recorded_unspoils target c.left c.last c.mid h.copied (end x) (end_steady x at) (so_last target h.begins.now h.passes h.none h.copied (end begun) (end_steady begun at) so_begun filled_at c) filled_at c.records)
 
   abbrev pub all_filled : Comes (Before target) t filled_at
   all_filled = filled_unspoiled.comes
@@ -560,7 +545,7 @@ module _ (target : ℕ) (kept orphans : Bitmap) (t : Moment) (at : IsSteadyAt t)
 
   pub made_crash : (left : List Disk) → CrashesCopying IsSuperWhole target h.begins.now h.passes h.none h.copied h.ready filled_at c t.requests left → IsCrashBefore target t left
   made_crash left stop =
-      later_crash target t begun left (copying_crash target h.begins.now h.passes h.none h.copied (end begun) (end_steady begun at) so_begun filled_at c un_begun left stop)
+      later_crash target t begun left (copying_crash target h.begins.now h.passes h.none h.copied (end begun) (end_steady begun at) so_begun filled_at c left stop)
 
 -- ---- in lives
 pub stops_storing : CrashesStoring

@@ -9,11 +9,12 @@ use Rattle.md_model.specs.Runs.{spoiled_after}
 use Rattle.md_model.specs.Worlds.{World}
 use Rattle.md_state.specs.DiskWrites.{AtDevice}
 use Rattle.md_state.specs.Requests.{AreInFlight}
-use Rattle.md_state.specs.View.{Disk, MirrorView, geometry_of}
+use Rattle.md_state.specs.View.{ArrayView, Disk, MirrorView, geometry_of}
 use Rattle.md_array.specs.Consistency.{IsConsistent}
 use Rattle.md_array.specs.Steps.Enrol.{EnrolsChunks, HoldsContent}
 use Rattle.md_array.specs.Steps.EnrolEvents.{IsHeldBy, enrol_event, prepared}
 use Rattle.md_array.specs.InTurn.{AllLeftWhole, AllOf, InTurn, Requests}
+use Rattle.md_array.specs.ReadAsKept.{misread_after}
 use Rattle.md_array.specs.Worlds.{block_on, lists_of, none_in_flight, world_of}
 use Rattle.md_array.proofs.General.Resting.{geometry_rests, world_rests}
 use Rattle.md_array.proofs.StepLemmas.Turns.{all_on, all_such}
@@ -32,10 +33,9 @@ use Rattle.md_metadata.specs.Storing.{IsStoring}
 use Rattle.md_copy.specs.declared.rebuilt.Rebuilt.{Rebuilt}
 use Rattle.md_copy.specs.RebuildEvents.{IsBeforeEnrol, IsOfRebuild}
 use Rattle.md_copy.specs.Rebuilding.{Rebuilds}
-use Rattle.md_copy.specs.Rebuilt.{failed_of}
 use Rattle.md_copy.proofs.Passing.PassesTold.{filled_ready}
 use Rattle.md_copy.proofs.Leads.RebuildLeads.{before_of, begin_holds, storing_before}
-use Rattle.md_call_laws.specs.Rebuilds.RebuildRuns.{LogsUnshifted, RebuildIsARun, RebuildRunsOn, RunsTo}
+use Rattle.md_call_laws.specs.Rebuilds.RebuildRuns.{RebuildIsARun, RebuildRunsOn, RunsTo}
 use Rattle.md_call_laws.specs.Rebuilds.RebuiltInLife.{HeldWhatItHad}
 use Rattle.md_call_laws.specs.Rebuilds.RebuildCrashes.{HasFilled, IsCrashEnrolled, CrashesAnyhow, CrashesEnrolled, CrashesInRebuild, CrashesStoringRecords}
 use Rattle.md_call_laws.proofs.RebuildLemmas.EnrolledRun.{at_end, enrolled_run_with}
@@ -70,8 +70,14 @@ rests_run_with (e ∷ es) t mid last a b r s =
     let x = subst (λ (m : Moment). MirrorRunWith m a (e ∷ es) last b) r.is s in
     let becomes = subst (λ g. Becomes g e (world_of t.mirror t.requests) a x.2) (geometry_rests t.mirror mid.mirror r.rests)
     (subst (λ (w : World). Becomes (geometry_of mid.mirror.array) e w a x.2) (world_rests t.mirror mid.mirror r.rests t.requests) x.4) in
-    let rest = subst (λ (w : World). MirrorRunWith (record (then_as t e x.0 x.1) { spoiled = spoiled_after e w t.spoiled; offset_unknown = spoiled_after e w t.offset_unknown; log_unknown = log_unknown_after e w t.log_unknown }) x.2 es last b)
-    (world_rests t.mirror mid.mirror r.rests t.requests) x.5 in
+    let rest = subst (λ (v : ArrayView). MirrorRunWith (record (then_as t e x.0 x.1) { misread = misread_after e v (world_of t.mirror t.requests) t.misread }) x.2 es last b) r.rests.array
+    (subst (λ (w : World). MirrorRunWith (record (then_as t e x.0 x.1) {
+      spoiled = spoiled_after e w t.spoiled;
+      misread = misread_after e mid.mirror.array w t.misread;
+      offset_unknown = spoiled_after e w t.offset_unknown;
+      log_unknown = log_unknown_after e w t.log_unknown;
+    }) x.2 es last b)
+    (world_rests t.mirror mid.mirror r.rests t.requests) x.5) in
     (x.0, x.1, x.2, record { mid = x.3.mid; rests = rests_then t.mirror mid.mirror x.3.mid r.rests x.3.rests; does = x.3.does }, becomes, rest)
 
 pub run_with_then : (es more : List Event) (t mid last : Moment) (a b c : Content) → MirrorRunWith t a es mid b → MirrorRunWith mid b more last c → MirrorRunWith t a (es ++ more) last c
@@ -137,7 +143,7 @@ module _ (target : ℕ) (kept orphans : Bitmap) (t : Moment) (at : IsSteadyAt t)
         sound = h.fills.sound;
         honest = mid_steady.sound.honest;
         failed_at = mid.failed_at;
-        spoiled = mid.spoiled;
+        spoiled = mid.misread;
         read = mid_steady.sound.read;
         unspoiled = (filled_unspoiled target kept orphans t at filled h).unspoiled;
         call = r;
@@ -210,9 +216,9 @@ module _ (before : List Disk) (m : MirrorView) (a : Content) (start : IsStart be
   held_then = is_held target kept orphans t.mirror filled new h r (end_steady c at).sound.honest b has_filled had
 
 -- what a rebuild that is done comes to
-abbrev pub filled_by : (target : ℕ) (told : Rebuilt) (old new : MirrorView) (h : Rebuilds target told old new) → LogsUnshifted (failed_of h.rebuilds.passes) old
+abbrev pub filled_by : (target : ℕ) (told : Rebuilt) (old new : MirrorView) (h : Rebuilds target told old new)
     → HasFilled target h.rebuilds.kept h.rebuilds.orphans old h.rebuilds.by.filled
-filled_by target told old new h unshifted = record {
+filled_by target told old new h = record {
   ready = h.ready;
   none = h.none;
   begins = h.begins;
@@ -220,13 +226,12 @@ filled_by target told old new h unshifted = record {
   copied = h.rebuilds.copied;
   chunks = h.rebuilds.chunks;
   fills = h.rebuilds.by.fills;
-  unshifted = unshifted;
 }
 
 pub rebuild_is_a_run : RebuildIsARun
-rebuild_is_a_run before m a start holds es rest final t b life target told new h unshifted had =
+rebuild_is_a_run before m a start holds es rest final t b life target told new h had =
     let by = h.rebuilds.by in
-    let f = filled_by target told t.mirror new h unshifted in
+    let f = filled_by target told t.mirror new h in
     rebuild_run target h.rebuilds.kept h.rebuilds.orphans t (steady_with before m a start holds es rest final t b life) by.filled f by.enrolled by.enrols by.sound b
     (held_then before m a start holds es rest final t b life target h.rebuilds.kept h.rebuilds.orphans by.filled by.enrolled f by.enrols had)
 
@@ -236,27 +241,27 @@ crashes_enrolled before m a start holds es rest final t b life target kept orpha
     (held_then before m a start holds es rest final t b life target kept orphans filled new h r had) left within super
 
 pub crashes_storing_records : CrashesStoringRecords
-crashes_storing_records before m a start holds es rest final t b life target told new h unshifted had records_stored g in_flight whole left stop =
+crashes_storing_records before m a start holds es rest final t b life target told new h had records_stored g in_flight whole left stop =
     let by = h.rebuilds.by in
-    let f = filled_by target told t.mirror new h unshifted in
+    let f = filled_by target told t.mirror new h in
     settling_crash target h.rebuilds.kept h.rebuilds.orphans t (steady_with before m a start holds es rest final t b life) by.filled f by.enrolled by.enrols by.sound b
     (held_then before m a start holds es rest final t b life target h.rebuilds.kept h.rebuilds.orphans by.filled by.enrolled f by.enrols had) records_stored g in_flight whole left stop
 
 pub rebuild_runs_on : RebuildRunsOn
-rebuild_runs_on before m a start holds es rest final t b life target told new h unshifted had records_stored g in_flight whole =
+rebuild_runs_on before m a start holds es rest final t b life target told new h had records_stored g in_flight whole =
     let by = h.rebuilds.by in
-    let f = filled_by target told t.mirror new h unshifted in
+    let f = filled_by target told t.mirror new h in
     settled_run target h.rebuilds.kept h.rebuilds.orphans t (steady_with before m a start holds es rest final t b life) by.filled f by.enrolled by.enrols by.sound b
     (held_then before m a start holds es rest final t b life target h.rebuilds.kept h.rebuilds.orphans by.filled by.enrolled f by.enrols had) records_stored g in_flight whole
 
 -- ---- within all of it
 pub crashes_in_rebuild : CrashesInRebuild
-crashes_in_rebuild before m a start holds es rest final t b life target told new h unshifted had in_flight left stop =
+crashes_in_rebuild before m a start holds es rest final t b life target told new h had in_flight left stop =
     let at = steady_with before m a start holds es rest final t b life in
     let by = h.rebuilds.by in
     let kept = h.rebuilds.kept in
     let orphans = h.rebuilds.orphans in
-    let f = filled_by target told t.mirror new h unshifted in
+    let f = filled_by target told t.mirror new h in
     elim stop [
       | inl first ↦ inl (begun_crash target kept orphans t at by.filled f first.0 left first.1)
       | inr (inl passes) ↦ inl (made_crash target kept orphans t at by.filled f left passes)
@@ -264,19 +269,19 @@ crashes_in_rebuild before m a start holds es rest final t b life target told new
         | inl as_before ↦ inl (enrolling_crash target kept orphans t at by.filled f by.enrolled by.enrols left enrols.0 as_before)
         | inr as_after ↦ inr (crashes_enrolled before m a start holds es rest final t b life target kept orphans by.filled by.enrolled f by.enrols by.sound had left enrols.0 as_after)
       ]
-      | inr (inr (inr stores_until_done)) ↦ inr (crashes_storing_records before m a start holds es rest final t b life target told new h unshifted had stores_until_done.0 stores_until_done.1 stores_until_done.2 stores_until_done.3 left stores_until_done.4)
+      | inr (inr (inr stores_until_done)) ↦ inr (crashes_storing_records before m a start holds es rest final t b life target told new h had stores_until_done.0 stores_until_done.1 stores_until_done.2 stores_until_done.3 left stores_until_done.4)
     ]
 
 pub crashes_anyhow : CrashesAnyhow
-crashes_anyhow before m a start holds es rest final t b life target told new h unshifted had in_flight left stop =
+crashes_anyhow before m a start holds es rest final t b life target told new h had in_flight left stop =
     let at = steady_with before m a start holds es rest final t b life in
     let by = h.rebuilds.by in
     let kept = h.rebuilds.kept in
     let orphans = h.rebuilds.orphans in
-    let f = filled_by target told t.mirror new h unshifted in
+    let f = filled_by target told t.mirror new h in
     elim stop [
       | inl first ↦ inl (begun_anyhow target kept orphans t at by.filled f first.0 left first.1)
       | inr (inl passes) ↦ inl (made_anyhow target kept orphans t at by.filled f left passes)
       | inr (inr (inl enrols)) ↦ inl (enrolling_anyhow target kept orphans t at by.filled f by.enrolled by.enrols left enrols.0)
-      | inr (inr (inr stores_until_done)) ↦ inr (crashes_storing_records before m a start holds es rest final t b life target told new h unshifted had stores_until_done.0 stores_until_done.1 stores_until_done.2 stores_until_done.3 left stores_until_done.4)
+      | inr (inr (inr stores_until_done)) ↦ inr (crashes_storing_records before m a start holds es rest final t b life target told new h had stores_until_done.0 stores_until_done.1 stores_until_done.2 stores_until_done.3 left stores_until_done.4)
     ]

@@ -27,13 +27,11 @@ use Rattle.md_copy.specs.Passing.{AreListedPasses, CopiesAll, ListsPass, Records
 use Rattle.md_copy.specs.Readying.{AdmitsAfter, AdmitsFirst, LowersTarget, Readies}
 use Rattle.md_copy.specs.Rebuilding.{BeginsRebuild}
 use Rattle.md_copy.specs.RebuildEvents.{IsBeforeEnrol}
-use Rattle.md_copy.specs.Rebuilt.{failed_of}
 use Rattle.md_copy.specs.Storing.{StoresFirst}
 use Rattle.md_copy.specs.Stretches.{AreRecorded, RecordsStretch, slots_after, slots_before}
 use Rattle.md_copy.proofs.Passing.PassesTold.{HoldsSoFar, chain_holds, holds_alone, listed_holds, one_holds}
 use Rattle.md_copy.proofs.Leads.RebuildLeads.{filled, listing_before, lowering_events, lowering_leads, noting_before, storing_before}
 use Rattle.md_call_laws.proofs.RebuildLemmas.Steady.{Comes, IsSteadyAt, comes_by, comes_same, comes_then, end, end_steady, holds_some}
-use Rattle.md_call_laws.proofs.RebuildLemmas.Unshifted.{Unshifted, un_noted, unshifted_first, unshifted_later, whole_stores_lists}
 
 abbrev pub Before : ℕ → Event → Type 0
 Before target = IsBeforeEnrol target
@@ -62,6 +60,24 @@ unfailing_records (e ∷ es) of none = absurd of.0
 noting_records : (e : Event) → IsNoting e → IsNoFailedRecord e
 noting_records (Event.NoteBad k more) of = tt
 noting_records e of = absurd of
+
+-- nor of those by which lists are stored, where none of their writes fails
+whole_lists : (es : List Event) (previous : Option Event) (old : MirrorView) (before : Requests) (Then : MirrorView → Requests → Type 0) (turn : InTurn previous old before es Then)
+    → AllOf IsStoringList es → AllOf IsNoFailure es → AllLeftWhole es previous old before Then turn
+whole_lists [] previous old before Then turn of none = tt
+whole_lists (e ∷ es) previous old before Then turn of none = (one e of.0 none.0, whole_lists es (Some e) turn.0 turn.1 Then turn.5 of.1 none.1)
+  where
+    one : (e : Event) → IsStoringList e → IsNoFailure e → LeftWhole old e turn.0
+    one (Event.StoreLog k listed) of none = tt
+    one (Event.StoreMarks k b) of none = tt
+    one (Event.Record k) of none = tt
+    one (Event.WriteFails k part) of none = absurd none
+    one e of none = absurd of
+
+pub whole_stores_lists : (failed : List Slot) (old new : MirrorView) (h : StoresLists failed old new) (requests : Requests) (in_flight : AreInFlight old.array requests)
+    → AllLeftWhole h.goes.events None old requests (λ m r. (m ≡ new) × (r ≡ requests)) (h.goes.leads None requests in_flight)
+whole_stores_lists failed old new h requests in_flight =
+    whole_lists h.goes.events None old requests (λ m r. (m ≡ new) × (r ≡ requests)) (h.goes.leads None requests in_flight) h.goes.steps h.unfailing
 
 -- ---- what is stored first, and the admission of a spare
 pub whole_stores : (t : Moment) (new : MirrorView) (goes : GoesOn only_others only_others IsStoring t.mirror new) → AllOf IsNoFailure goes.events → (in_flight : AreInFlight t.mirror.array t.requests)
@@ -110,17 +126,17 @@ pub fill_comes : (target : ℕ) (t : Moment) → IsSteadyAt t → (new : MirrorV
 fill_comes target t at new f =
     comes_by (Before target) t new (Event.Fill target ∷ []) (refl, tt) (fill_is_a_call target t.mirror new at.sound.sound f None t.requests at.sound.in_flight) at (tt, tt)
 
--- the target is not spoiled then
+-- the target is not spoiled then: an opening reads what is kept of it
 pub record ComesUnspoiled (target : ℕ) (t : Moment) (new : MirrorView) : Type 0 where
   pub comes : Comes (Before target) t new
-  pub unspoiled : comes.past.spoiled target ≡ false
+  pub unspoiled : comes.past.misread target ≡ false
 
 -- a checkpoint stores its superblock
-stored_super : (target sure : ℕ) (listed : ℕ → Bool) (t last : Moment) → MirrorRun t (Event.Checkpoint target sure listed ∷ []) last → last.spoiled target ≡ false
+stored_super : (target sure : ℕ) (listed : ℕ → Bool) (t last : Moment) → MirrorRun t (Event.Checkpoint target sure listed ∷ []) last → last.misread target ≡ false
 stored_super target sure listed t last run =
     let next : Moment = record (then_as t (Event.Checkpoint target sure listed) run.0 run.1) { mirror = last.mirror } in
     let is : last ≡ next = run.3.is in
-    ap (λ (x : Moment). x.spoiled target) is ∙ put-hit target false t.spoiled
+    ap (λ (x : Moment). x.misread target) is ∙ put-hit target false t.misread
 
 pub checkpoint_unspoils : (target : ℕ) (copied : Bitmap) (t : Moment) → IsSteadyAt t → (new : MirrorView) → Checkpoints target copied t.mirror new → ComesUnspoiled target t new
 checkpoint_unspoils target copied t at new r =
@@ -196,11 +212,11 @@ noted_comes target failed t at new h =
     comes_by (Before target) t new goes.events (all_such IsNoting (Before target) (noting_before target) goes.events goes.steps) leads at
     (whole_of goes.events None t.mirror t.requests (λ m r. (m ≡ new) × (r ≡ t.requests)) leads (all_such IsNoting IsNoFailedRecord noting_records goes.events goes.steps))
 
-pub lists_comes : (target : ℕ) (failed : List Slot) (t : Moment) → IsSteadyAt t → Unshifted failed t.mirror.array → (new : MirrorView) → StoresLists failed t.mirror new → Comes (Before target) t new
-lists_comes target failed t at un new h =
+pub lists_comes : (target : ℕ) (failed : List Slot) (t : Moment) → IsSteadyAt t → (new : MirrorView) → StoresLists failed t.mirror new → Comes (Before target) t new
+lists_comes target failed t at new h =
     let goes = h.goes in
     comes_by (Before target) t new goes.events (all_such IsStoringList (Before target) (listing_before target) goes.events goes.steps) (goes.leads None t.requests at.sound.in_flight) at
-    (whole_stores_lists failed t.mirror new h un t.requests at.sound.in_flight)
+    (whole_stores_lists failed t.mirror new h t.requests at.sound.in_flight)
 
 -- ---- passes
 module _ (target : ℕ) (chunks : List ℕ) (p : PassView) (before after : Bitmap) (t : Moment) (at : IsSteadyAt t) (so : HoldsSoFar target t.mirror before chunks) (new : MirrorView)
@@ -212,28 +228,25 @@ module _ (target : ℕ) (chunks : List ℕ) (p : PassView) (before after : Bitma
   pub noting_comes : Comes (Before target) t h.lists.noted
   noting_comes = comes_then pass_comes (noted_comes target p.failed (end pass_comes) (end_steady pass_comes at) h.lists.noted h.lists.notes)
 
-  pub listed_comes : Unshifted p.failed t.mirror.array → Comes (Before target) t new
-  listed_comes un =
-      comes_then noting_comes
-      (lists_comes target p.failed (end noting_comes) (end_steady noting_comes at) (un_noted target chunks p before after t.mirror new h p.failed un) new h.lists.stores)
+  pub listed_comes : Comes (Before target) t new
+  listed_comes = comes_then noting_comes (lists_comes target p.failed (end noting_comes) (end_steady noting_comes at) new h.lists.stores)
 
 pub passes_come : (target : ℕ) (ps : List PassView) (chunks rest : List ℕ) (before after : Bitmap) (t : Moment) → IsSteadyAt t → HoldsSoFar target t.mirror before chunks
-    → (new : MirrorView) → AreListedPasses target ps chunks rest before after t.mirror new → Unshifted (failed_of ps) t.mirror.array → Comes (Before target) t new
-passes_come target [] chunks rest before after t at so new h un = comes_same (Before target) t new h.2
-passes_come target (p ∷ ps) chunks rest before after t at so new h un =
-    let c = listed_comes target chunks p before h.0 t at so h.1 h.2 (unshifted_first p.failed (failed_of ps) t.mirror.array un) in
+    → (new : MirrorView) → AreListedPasses target ps chunks rest before after t.mirror new → Comes (Before target) t new
+passes_come target [] chunks rest before after t at so new h = comes_same (Before target) t new h.2
+passes_come target (p ∷ ps) chunks rest before after t at so new h =
+    let c = listed_comes target chunks p before h.0 t at so h.1 h.2 in
     comes_then c
-    (passes_come target ps (failed_chunks p) rest h.0 after (end c) (end_steady c at) (listed_holds target chunks p before h.0 t.mirror h.1 h.2 so) new h.3
-    (unshifted_later target chunks p ps before h.0 t.mirror h.1 h.2 un))
+    (passes_come target ps (failed_chunks p) rest h.0 after (end c) (end_steady c at) (listed_holds target chunks p before h.0 t.mirror h.1 h.2 so) new h.3)
 
 module _ (target : ℕ) (m : MemberView) (passes : List PassView) (before after : Bitmap) (t : Moment) (at : IsSteadyAt t) (so : HoldsSoFar target t.mirror before (missing_chunks t.mirror.array m)) (new : MirrorView)
-    (h : CopiesAll target m passes before after t.mirror new) (un : Unshifted (failed_of h.listed) t.mirror.array) where
+    (h : CopiesAll target m passes before after t.mirror new) where
   abbrev first : List ℕ
   first = missing_chunks t.mirror.array m
 
   -- until the last of them
   pub until_last : Comes (Before target) t h.now
-  until_last = passes_come target h.listed first h.left before h.mid t at so h.now h.passed un
+  until_last = passes_come target h.listed first h.left before h.mid t at so h.now h.passed
 
   pub so_last : HoldsSoFar target h.now h.mid h.left
   so_last = chain_holds target h.listed first h.left before h.mid t.mirror h.now h.passed so

@@ -13,20 +13,17 @@ use Rattle.md_copy.specs.Table.Sources.{missing_chunks}
 use Rattle.md_copy.specs.Listing.{IsStoringList, NotesLists}
 use Rattle.md_copy.specs.Passing.{AreListedPasses, CopiesAll, MakesPart, RecordsPass}
 use Rattle.md_copy.specs.Rebuilding.{BeginsRebuild, LacksMemoryToRebuild, LacksRoom}
-use Rattle.md_copy.specs.Rebuilt.{failed_of}
 use Rattle.md_copy.proofs.Passing.PassesTold.{HoldsSoFar, chain_holds, holds_alone, stretches_hold}
 use Rattle.md_copy.proofs.Passing.PassesTold as told
 use Rattle.md_copy.proofs.Passing.PassRecorded.{recorded_ready}
 use Rattle.md_copy.proofs.Ready.ReadyStill.{ready_noted}
 use Rattle.md_copy.proofs.Leads.RebuildLeads.{begin_holds, listing_before}
-use Rattle.md_call_laws.specs.Rebuilds.RebuildRuns.{LogsUnshifted}
-use Rattle.md_call_laws.specs.Rebuilds.RefusedRebuilds.{HasLost, HasGivenUp, HasUnshifted, LostIsARun, RefusedIsARun, CrashesLeaving, CrashesLeavingAnyhow, CrashesLeavingLost, CrashesLeavingLostAnyhow, CrashesUnleft, CrashesUnleftLost, passes_then}
+use Rattle.md_call_laws.specs.Rebuilds.RefusedRebuilds.{HasLost, HasGivenUp, LostIsARun, RefusedIsARun, CrashesLeaving, CrashesLeavingAnyhow, CrashesLeavingLost, CrashesLeavingLostAnyhow, CrashesUnleft, CrashesUnleftLost}
 use Rattle.md_call_laws.proofs.RebuildLemmas.RebuildRun.{stays_along}
 use Rattle.md_call_laws.proofs.RebuildLemmas.RebuildSteps.{Before, all_come, begun_comes, noted_comes, passes_come, recorded_comes, stretches_come}
 use Rattle.md_call_laws.proofs.RebuildLemmas.SpoiledRebuilds.{later_anyhow, offset_anyhow}
 use Rattle.md_call_laws.proofs.RebuildLemmas.Steady.{Comes, IsSteadyAt, comes_by, comes_then, end, end_steady, steady_at, steady_with}
 use Rattle.md_call_laws.proofs.RebuildLemmas.RebuildCrashes.{later_crash, passed, passed_holds, recording_crash, unrecorded_offset_crash}
-use Rattle.md_call_laws.proofs.RebuildLemmas.Unshifted.{Unshifted, unshifted_before_last, unshifted_begun}
 
 -- a run leads there, and the target is recovering then
 record ComesReady (target : ℕ) (t : Moment) (new : MirrorView) : Type 0 where
@@ -38,9 +35,9 @@ module _ (target : ℕ) (t : Moment) (at : IsSteadyAt t) (m : MemberView) (none 
   abbrev first : List ℕ
   first = missing_chunks t.mirror.array m
 
-  module _ (passes : List PassView) (chunks : List ℕ) (copied : Bitmap) (now : MirrorView) (passed : AreListedPasses target passes first chunks none copied t.mirror now) (un : Unshifted (failed_of passes) t.mirror.array) where
+  module _ (passes : List PassView) (chunks : List ℕ) (copied : Bitmap) (now : MirrorView) (passed : AreListedPasses target passes first chunks none copied t.mirror now) where
     until_now : Comes (Before target) t now
-    until_now = passes_come target passes first chunks none copied t at so now passed un
+    until_now = passes_come target passes first chunks none copied t at so now passed
 
     so_now : HoldsSoFar target now copied chunks
     so_now = chain_holds target passes first chunks none copied t.mirror now passed so
@@ -69,19 +66,13 @@ module _ (target : ℕ) (t : Moment) (at : IsSteadyAt t) (m : MemberView) (none 
         }
 
   -- after all
-  ends_copied : (passes : List PassView) (copied : Bitmap) (stopped : MirrorView) (h : CopiesAll target m passes none copied t.mirror stopped) → Unshifted (failed_of h.listed) t.mirror.array → ComesReady target t stopped
-  ends_copied passes copied stopped h un = record {
-    comes = all_come target m passes none copied t at so stopped h un;
+  ends_copied : (passes : List PassView) (copied : Bitmap) (stopped : MirrorView) (h : CopiesAll target m passes none copied t.mirror stopped) → ComesReady target t stopped
+  ends_copied passes copied stopped h = record {
+    comes = all_come target m passes none copied t at so stopped h;
     recovers = (told.filled_ready target m passes none copied t.mirror stopped h so).recovering;
   }
 
 -- ---- from the moment of the call
--- what is asked of logs, once a pass may be planned and all are made
-all_unshifted : (target : ℕ) (old ready : MirrorView) (none : Bitmap) (b : BeginsRebuild target old ready none) (passes : List PassView) (copied : Bitmap) (stopped : MirrorView)
-    (h : CopiesAll target b.now passes none copied ready stopped) → LogsUnshifted (failed_of passes) old → Unshifted (failed_of h.listed) ready.array
-all_unshifted target old ready none b passes copied stopped h un =
-    unshifted_begun target (failed_of h.listed) old ready none b (unshifted_before_last target b.now passes none copied ready stopped h old.array un)
-
 module _ (target : ℕ) (t : Moment) (at : IsSteadyAt t) (copied : Bitmap) (stopped ready : MirrorView) (none : Bitmap) (b : BeginsRebuild target t.mirror ready none) where
   begun : Comes (Before target) t ready
   begun = begun_comes target t at ready none b
@@ -93,31 +84,30 @@ module _ (target : ℕ) (t : Moment) (at : IsSteadyAt t) (copied : Bitmap) (stop
   abbrev At : Type 0
   At = ComesReady target (end begun) stopped
 
-  ends_so : (why : LacksMemoryToRebuild target b.now none copied ready stopped ⊎ ((k : ℕ) × LacksRoom k target b.now none copied ready stopped)) → LogsUnshifted (failed_of (passes_then why)) t.mirror → At
-  ends_so (inl (inl e)) un =
-      (let un_then = unshifted_begun target (failed_of e.passes) t.mirror ready none b un in
+  ends_so : (why : LacksMemoryToRebuild target b.now none copied ready stopped ⊎ ((k : ℕ) × LacksRoom k target b.now none copied ready stopped)) → At
+  ends_so (inl (inl e)) =
       elim e.why [
-        | inl same ↦ ends_now target (end begun) (end_steady begun at) b.now none so e.passes e.left e.copied e.now e.passed un_then stopped same.1
-        | inr part ↦ ends_part target (end begun) (end_steady begun at) b.now none so e.passes e.left e.copied e.now e.passed un_then copied stopped part
-      ])
-  ends_so (inl (inr (inl e))) un =
-      ends_noting target (end begun) (end_steady begun at) b.now none so e.passes e.left e.copied e.now e.passed (unshifted_begun target (failed_of e.passes) t.mirror ready none b un) e.why.pass copied e.why.recorded stopped
+        | inl same ↦ ends_now target (end begun) (end_steady begun at) b.now none so e.passes e.left e.copied e.now e.passed stopped same.1
+        | inr part ↦ ends_part target (end begun) (end_steady begun at) b.now none so e.passes e.left e.copied e.now e.passed copied stopped part
+      ]
+  ends_so (inl (inr (inl e))) =
+      ends_noting target (end begun) (end_steady begun at) b.now none so e.passes e.left e.copied e.now e.passed e.why.pass copied e.why.recorded stopped
       e.why.records e.why.fails.taken e.why.fails.notes
-  ends_so (inl (inr (inr e))) un =
+  ends_so (inl (inr (inr e))) =
       subst (ComesReady target (end begun)) (sym e.why.unchanged)
-      (ends_copied target (end begun) (end_steady begun at) b.now none so e.passes e.copied e.filled e.fills.copies (all_unshifted target t.mirror ready none b e.passes e.copied e.filled e.fills.copies un))
-  ends_so (inr (k, inl e)) un =
-      ends_noting target (end begun) (end_steady begun at) b.now none so e.passes e.left e.copied e.now e.passed (unshifted_begun target (failed_of e.passes) t.mirror ready none b un) e.why.pass copied e.why.recorded stopped
+      (ends_copied target (end begun) (end_steady begun at) b.now none so e.passes e.copied e.filled e.fills.copies)
+  ends_so (inr (k, inl e)) =
+      ends_noting target (end begun) (end_steady begun at) b.now none so e.passes e.left e.copied e.now e.passed e.why.pass copied e.why.recorded stopped
       e.why.records e.why.fails.taken e.why.fails.notes
-  ends_so (inr (k, inr e)) un =
+  ends_so (inr (k, inr e)) =
       let f = e.1 in
       subst (ComesReady target (end begun)) (sym f.why.unchanged)
-      (ends_copied target (end begun) (end_steady begun at) b.now none so f.passes f.copied f.filled f.fills.copies (all_unshifted target t.mirror ready none b f.passes f.copied f.filled f.fills.copies un))
+      (ends_copied target (end begun) (end_steady begun at) b.now none so f.passes f.copied f.filled f.fills.copies)
 
-stopped_so : (target : ℕ) (t : Moment) → IsSteadyAt t → (copied : Bitmap) (stopped : MirrorView) (h : HasGivenUp target copied t.mirror stopped) → HasUnshifted h → ComesReady target t stopped
-stopped_so target t at copied stopped h un =
+stopped_so : (target : ℕ) (t : Moment) → IsSteadyAt t → (copied : Bitmap) (stopped : MirrorView) (h : HasGivenUp target copied t.mirror stopped) → ComesReady target t stopped
+stopped_so target t at copied stopped h =
     let c = begun target t at copied stopped h.ready h.none h.begins in
-    let x = ends_so target t at copied stopped h.ready h.none h.begins h.why un in
+    let x = ends_so target t at copied stopped h.ready h.none h.begins h.why in
     record { comes = comes_then c x.comes; recovers = x.recovers }
 
 -- ---- where a list of a source could not be stored
@@ -131,26 +121,26 @@ lost_comes target t at last h =
 
 -- ---- in lives
 pub refused_is_a_run : RefusedIsARun
-refused_is_a_run before m a start holds es rest final t b life target copied stopped h un =
-    let c = (stopped_so target t (steady_with before m a start holds es rest final t b life) copied stopped h un).comes in
+refused_is_a_run before m a start holds es rest final t b life target copied stopped h =
+    let c = (stopped_so target t (steady_with before m a start holds es rest final t b life) copied stopped h).comes in
     record { events = c.events; steps = c.steps; at = end c; run = stays_along target c.events t b (end c) c.steps c.run; there = refl }
 
 pub crashes_leaving : CrashesLeaving
-crashes_leaving before m start es rest final t life target copied stopped new h un r left within super =
+crashes_leaving before m start es rest final t life target copied stopped new h r left within super =
     let at = steady_at before m start es rest final t life in
-    let x = stopped_so target t at copied stopped h un in
+    let x = stopped_so target t at copied stopped h in
     later_crash target t x.comes left (recording_crash target (end x.comes) (end_steady x.comes at) x.recovers copied new r left within super)
 
 pub crashes_unleft : CrashesUnleft
-crashes_unleft before m start es rest final t life target copied stopped new h un f left within same =
+crashes_unleft before m start es rest final t life target copied stopped new h f left within same =
     let at = steady_at before m start es rest final t life in
-    let x = stopped_so target t at copied stopped h un in
+    let x = stopped_so target t at copied stopped h in
     later_crash target t x.comes left (unrecorded_offset_crash target (end x.comes) (end_steady x.comes at) x.recovers copied new f left within same)
 
 pub crashes_leaving_anyhow : CrashesLeavingAnyhow
-crashes_leaving_anyhow before m start es rest final t life target copied stopped new h un call left within =
+crashes_leaving_anyhow before m start es rest final t life target copied stopped new h call left within =
     let at = steady_at before m start es rest final t life in
-    let x = stopped_so target t at copied stopped h un in
+    let x = stopped_so target t at copied stopped h in
     later_anyhow target t x.comes left (offset_anyhow target (end x.comes) (end_steady x.comes at) x.recovers copied new call left within)
 
 pub lost_is_a_run : LostIsARun

@@ -32,7 +32,6 @@ use Rattle.md_copy.specs.Table.Sources.{missing_chunks}
 use Rattle.md_copy.specs.Passing.{AreListedPasses, CopiesAll, ListsPass, RecordsPass}
 use Rattle.md_copy.specs.Readying.{AdmitsAfter, FailsAdmission, Readies}
 use Rattle.md_copy.specs.RebuildEvents.{IsBeforeEnrol, IsOfUnfinished}
-use Rattle.md_copy.specs.Rebuilt.{failed_of}
 use Rattle.md_copy.specs.Rebuilding.{EndsStoring}
 use Rattle.md_copy.proofs.Ready.Lowered.{lowered_but}
 use Rattle.md_copy.specs.Storing.{FailsToRecordTarget}
@@ -46,8 +45,7 @@ use Rattle.md_copy.proofs.Stored.TargetStates.{target_rebuilt}
 use Rattle.md_call_laws.specs.Rebuilds.RebuildCrashes.{AnySuper, HasFilled, IsCrashBefore, IsCrashUnfinished, CrashesAdmittingAnyhow, CrashesAtCheckpointAnyhow, CrashesCopying, CrashesEnrollingAnyhow, CrashesInListed, CrashesInPass, CrashesInPasses, CrashesInStretch, CrashesInStretches, CrashesReadying, CrashesRecordingAnyhow, CrashesTelling, CrashesUnadmittedAnyhow, CrashesUnenrolledAnyhow}
 use Rattle.md_call_laws.proofs.RebuildLemmas.RebuildSteps.{Before, filled_comes, listed_comes, so_last, stretch_comes, until_last}
 use Rattle.md_call_laws.proofs.RebuildLemmas.Steady.{Comes, IsSteadyAt, end, end_steady, steady_at}
-use Rattle.md_call_laws.proofs.RebuildLemmas.RebuildCrashes.{after_crash, all_filled, before_admission, before_failure, before_crash, begun, first_done, filling_crash, listing_crash, lowered_done, recovers_filled, recovers_made, so_begun, un_begun, until_made}
-use Rattle.md_call_laws.proofs.RebuildLemmas.Unshifted.{Unshifted, unshifted_first, unshifted_later}
+use Rattle.md_call_laws.proofs.RebuildLemmas.RebuildCrashes.{after_crash, all_filled, before_admission, before_failure, before_crash, begun, first_done, filling_crash, listing_crash, lowered_done, recovers_filled, recovers_made, so_begun, until_made}
 
 -- one in which the target is not spoiled is such a crash
 pub unfinished : (target : ℕ) (t : Moment) (left : List Disk) → IsCrashBefore target t left → IsCrashUnfinished target t left
@@ -179,24 +177,23 @@ module _ (target : ℕ) (chunks : List ℕ) (p : PassView) (before after : Bitma
       stretches_anyhow target h.stretches.rounds (slots_of_pass p) [] before after t at (holds_alone target t.mirror before chunks so) new h.stretches.all left stop
 
 module _ (target : ℕ) (chunks : List ℕ) (p : PassView) (before after : Bitmap) (t : Moment) (at : IsSteadyAt t) (so : HoldsSoFar target t.mirror before chunks) (new : MirrorView)
-    (h : ListsPass target chunks p before after t.mirror new) (un : Unshifted p.failed t.mirror.array) where
+    (h : ListsPass target chunks p before after t.mirror new) where
   pub listed_anyhow : (left : List Disk) → CrashesInListed AnySuper target chunks p before after t.mirror new h t.requests left → IsCrashUnfinished target t left
   listed_anyhow left stop = elim stop [
     | inl passing ↦ pass_anyhow target chunks p before after t at so h.recorded h.records left passing
-    | inr listing ↦ unfinished target t left (listing_crash target chunks p before after t at so new h un left listing.0 listing.1)
+    | inr listing ↦ unfinished target t left (listing_crash target chunks p before after t at so new h left listing.0 listing.1)
   ]
 
 pub passes_anyhow : (target : ℕ) (ps : List PassView) (chunks rest : List ℕ) (before after : Bitmap) (t : Moment) → IsSteadyAt t → HoldsSoFar target t.mirror before chunks
-    → (new : MirrorView) (h : AreListedPasses target ps chunks rest before after t.mirror new) → Unshifted (failed_of ps) t.mirror.array
+    → (new : MirrorView) (h : AreListedPasses target ps chunks rest before after t.mirror new)
     → (left : List Disk) → CrashesInPasses AnySuper target ps chunks rest before after t.mirror new h t.requests left → IsCrashUnfinished target t left
-passes_anyhow target [] chunks rest before after t at so new h un left stop = absurd stop
-passes_anyhow target (p ∷ ps) chunks rest before after t at so new h un left (inl here) =
-    listed_anyhow target chunks p before h.0 t at so h.1 h.2 (unshifted_first p.failed (failed_of ps) t.mirror.array un) left here
-passes_anyhow target (p ∷ ps) chunks rest before after t at so new h un left (inr later) =
-    let c = listed_comes target chunks p before h.0 t at so h.1 h.2 (unshifted_first p.failed (failed_of ps) t.mirror.array un) in
+passes_anyhow target [] chunks rest before after t at so new h left stop = absurd stop
+passes_anyhow target (p ∷ ps) chunks rest before after t at so new h left (inl here) =
+    listed_anyhow target chunks p before h.0 t at so h.1 h.2 left here
+passes_anyhow target (p ∷ ps) chunks rest before after t at so new h left (inr later) =
+    let c = listed_comes target chunks p before h.0 t at so h.1 h.2 in
     later_anyhow target t c left
-    (passes_anyhow target ps (failed_chunks p) rest h.0 after (end c) (end_steady c at) (listed_holds target chunks p before h.0 t.mirror h.1 h.2 so) new h.3
-    (unshifted_later target chunks p ps before h.0 t.mirror h.1 h.2 un) left later)
+    (passes_anyhow target ps (failed_chunks p) rest h.0 after (end c) (end_steady c at) (listed_holds target chunks p before h.0 t.mirror h.1 h.2 so) new h.3 left later)
 
 -- ---- within all of a rebuild until the target is filled, and while it comes into sync
 module _ (target : ℕ) (kept orphans : Bitmap) (t : Moment) (at : IsSteadyAt t) (filled : MirrorView) (h : HasFilled target kept orphans t.mirror filled) where
@@ -214,14 +211,13 @@ module _ (target : ℕ) (kept orphans : Bitmap) (t : Moment) (at : IsSteadyAt t)
   made_anyhow left stop =
       let b = begun target kept orphans t at filled h in
       let so = so_begun target kept orphans t at filled h in
-      let un = un_begun target kept orphans t at filled h in
       later_anyhow target t b left
       (elim stop [
-        | inl within ↦ passes_anyhow target c.listed (missing_chunks h.ready.array h.begins.now) c.left h.none c.mid (end b) (end_steady b at) so c.now c.passed un left within
+        | inl within ↦ passes_anyhow target c.listed (missing_chunks h.ready.array h.begins.now) c.left h.none c.mid (end b) (end_steady b at) so c.now c.passed left within
         | inr within ↦
-            (let x = until_last target h.begins.now h.passes h.none h.copied (end b) (end_steady b at) so filled c un in
+            (let x = until_last target h.begins.now h.passes h.none h.copied (end b) (end_steady b at) so filled c in
             later_anyhow target (end b) x left
-            (pass_anyhow target c.left c.last c.mid h.copied (end x) (end_steady x (end_steady b at)) (so_last target h.begins.now h.passes h.none h.copied (end b) (end_steady b at) so filled c un) filled c.records left within))
+            (pass_anyhow target c.left c.last c.mid h.copied (end x) (end_steady x (end_steady b at)) (so_last target h.begins.now h.passes h.none h.copied (end b) (end_steady b at) so filled c) filled c.records left within))
       ])
 
   abbrev done : Comes (Before target) t filled

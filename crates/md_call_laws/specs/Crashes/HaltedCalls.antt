@@ -4,7 +4,6 @@ use Rattle.md_model.specs.Events.{Event, MemberPart}
 use Rattle.md_state.specs.Requests.{AreInFlight, among}
 use Rattle.md_state.specs.View.{Disk, MirrorView}
 use Rattle.md_array.specs.InTurn.{AllLeftWhole, HaltsAt, Leads, Requests}
-use Rattle.md_array.specs.Steps.StoreLog.{HasNoShift}
 use Rattle.md_laws.specs.HaltedWrites.{IsDoneOrNot, IsLeftInSectors}
 use Rattle.md_laws.specs.Left.{IsLeftByCrash, contents_of}
 use Rattle.md_laws.specs.Runs.{MirrorRun, Moment}
@@ -24,14 +23,13 @@ IsLeftSince before after left = MayAllBeLeft before after (contents_of left) ⊎
 -- ---- what is asked
 -- What is asked of a crash within a write that halted the mirror, and after it, by the kind of the write. Of a
 -- superblock it is that the old one, the new one or none was left. Of a sector of a bitmap and of a log it is
--- that the write was left done or not done, and of a log that it was read without a shift, or stored since,
--- too. Of a copy it is that each sector was left as it was or as written. Of data that are written nothing is
--- asked.
+-- that the write was left done or not done. Of a copy it is that each sector was left as it was or as written.
+-- Of data that are written nothing is asked.
 abbrev pub IsLeftByHalt : (failing : Event) (old new : MirrorView) (requests : Requests) → HaltsAt old requests failing new → List Disk → Type 0
 IsLeftByHalt (Event.WriteFails k MemberPart.Superblock) old new requests h left = LeavesSuperWhole k old left
 IsLeftByHalt (Event.WriteFails k (MemberPart.RequestData n)) old new requests h left = Unit {0}
 IsLeftByHalt (Event.WriteFails k (MemberPart.BitmapSector b)) old new requests h left = IsDoneOrNot k h.write old.disks (contents_of left)
-IsLeftByHalt (Event.WriteFails k MemberPart.Log) old new requests h left = HasNoShift k old × IsDoneOrNot k h.write old.disks (contents_of left)
+IsLeftByHalt (Event.WriteFails k MemberPart.Log) old new requests h left = IsDoneOrNot k h.write old.disks (contents_of left)
 IsLeftByHalt (Event.WriteFails k (MemberPart.CopiedSectors s n)) old new requests h left =
     IsLeftInSectors k (h.copy.may.target.superblock.data_offset + s) h.bytes old.disks (contents_of left)
 IsLeftByHalt e old new requests h left = ⊥

@@ -35,8 +35,7 @@ use Rattle.md_copy.specs.Storing.{FailsToRecordTarget, StoresFirst}
 use Rattle.md_copy.specs.Stretches.{AreRecorded, MakesStretch, MayCopySlots, RecordsStretch, slots_after, slots_before}
 use Rattle.md_copy.specs.RebuildEvents.{FailsAtMarks, IsBeforeEnrol, IsOfRebuild, IsOfUnfinished}
 use Rattle.md_copy.specs.Rebuilding.{BeginsRebuild, EndsStoring, FillsBy, Rebuilds}
-use Rattle.md_copy.specs.Rebuilt.{failed_of}
-use Rattle.md_call_laws.specs.Rebuilds.RebuildRuns.{AtMomentsWith, LogsUnshifted}
+use Rattle.md_call_laws.specs.Rebuilds.RebuildRuns.{AtMomentsWith}
 use Rattle.md_call_laws.specs.Rebuilds.RebuiltInLife.{HeldWhatItHad}
 
 -- ---- what it leaves
@@ -118,7 +117,6 @@ pub record HasPassed (target : ℕ) (left : List ℕ) (copied : Bitmap) (old now
   pub begins : BeginsRebuild target old ready none
   pub passes : List PassView
   pub passed : AreListedPasses target passes (missing_chunks ready.array begins.now) left none copied ready now
-  pub unshifted : LogsUnshifted (failed_of passes) old
 
 -- A rebuild has made its passes up to one of which stretches are recorded, or none.
 pub record HasStretched (target : ℕ) (copied : Bitmap) (old now : MirrorView) : Type 0 where
@@ -170,9 +168,8 @@ CrashesAtFailedCheckpoint =
     → (left : List Disk) → MayAllBeLeft t.mirror.disks new.disks (contents_of left) → AtDevice target t.mirror.disks left (λ d e. block_on e.content ≡ block_on d.content)
     → IsCrashBefore target t left))
 
--- A crash while the lists of sources are stored: by these events, of which some may have failed. Each log that
--- they store was read without a shift, or stored since. Each failed write of a superblock left the old one,
--- the new one or none (`AllLeftWhole`).
+-- A crash while the lists of sources are stored: by these events, of which some may have failed. Each failed
+-- write of a superblock left the old one, the new one or none (`AllLeftWhole`).
 abbrev pub CrashesListing : Type 0
 CrashesListing =
     AtMoments (λ t.
@@ -193,7 +190,6 @@ pub record HasFilled (target : ℕ) (kept orphans : Bitmap) (old filled : Mirror
   pub copied : Bitmap
   pub chunks : List ℕ
   pub fills : FillsBy target begins.now passes none copied kept orphans chunks ready filled
-  pub unshifted : LogsUnshifted (failed_of passes) old
 
 -- A crash within the enrolment, where the target's superblock stands as before it.
 abbrev pub CrashesEnrolling : Type 0
@@ -226,7 +222,7 @@ CrashesEnrolled =
 abbrev pub CrashesStoringRecords : Type 0
 CrashesStoringRecords =
     AtMomentsWith (λ t content.
-    ((target : ℕ) (told : Rebuilt) (new : MirrorView) (h : Rebuilds target told t.mirror new) → LogsUnshifted (failed_of h.rebuilds.passes) t.mirror
+    ((target : ℕ) (told : Rebuilt) (new : MirrorView) (h : Rebuilds target told t.mirror new)
     → HeldWhatItHad target content t.mirror
     → (records_stored : MirrorView) (g : GoesOn only_others only_others IsStoring h.rebuilds.by.enrolled records_stored) (in_flight : AreInFlight h.rebuilds.by.enrolled.array t.requests)
     → AllLeftWhole g.events None h.rebuilds.by.enrolled t.requests (λ m r. (m ≡ records_stored) × (r ≡ t.requests)) (g.leads None t.requests in_flight)
@@ -360,7 +356,7 @@ CrashesWithinRebuild Super target told old new h requests in_flight left =
 abbrev pub CrashesInRebuild : Type 0
 CrashesInRebuild =
     AtMomentsWith (λ t content.
-    ((target : ℕ) (told : Rebuilt) (new : MirrorView) (h : Rebuilds target told t.mirror new) → LogsUnshifted (failed_of h.rebuilds.passes) t.mirror
+    ((target : ℕ) (told : Rebuilt) (new : MirrorView) (h : Rebuilds target told t.mirror new)
     → HeldWhatItHad target content t.mirror
     → (in_flight : AreInFlight t.mirror.array t.requests) (left : List Disk) → CrashesWithinRebuild IsSuperWhole target told t.mirror new h t.requests in_flight left
     → IsCrashBefore target t left ⊎ IsCrashEnrolled target t content left))
@@ -370,7 +366,7 @@ CrashesInRebuild =
 abbrev pub CrashesAnyhow : Type 0
 CrashesAnyhow =
     AtMomentsWith (λ t content.
-    ((target : ℕ) (told : Rebuilt) (new : MirrorView) (h : Rebuilds target told t.mirror new) → LogsUnshifted (failed_of h.rebuilds.passes) t.mirror
+    ((target : ℕ) (told : Rebuilt) (new : MirrorView) (h : Rebuilds target told t.mirror new)
     → HeldWhatItHad target content t.mirror
     → (in_flight : AreInFlight t.mirror.array t.requests) (left : List Disk) → CrashesWithinRebuild AnySuper target told t.mirror new h t.requests in_flight left
     → IsCrashUnfinished target t left ⊎ IsCrashEnrolled target t content left))

@@ -1,10 +1,7 @@
 -- A rebuild in the life of a mirror is a run.
 use Rattle.std.specs.Prelude.{◌≡◌, ℕ, List, None}
-use Rattle.md_cert.specs.declared.slots.Slot.{Slot}
-use Rattle.md_kept_members.specs.View.{MemberView}
 use Rattle.md_model.specs.Content.{Content, Holds}
 use Rattle.md_model.specs.Events.{Event}
-use Rattle.md_state.specs.Members.{IsMember}
 use Rattle.md_state.specs.Requests.{AreInFlight}
 use Rattle.md_state.specs.View.{Disk, MirrorView, geometry_of}
 use Rattle.md_array.specs.InTurn.{AllLeftWhole, AllOf}
@@ -14,10 +11,8 @@ use Rattle.md_laws.specs.Runs.{IsStart, MirrorRunWith, Moment}
 use Rattle.md_metadata.specs.Going.{GoesOn, only_others}
 use Rattle.md_metadata.specs.Storing.{IsStoring}
 use Rattle.md_copy.specs.declared.rebuilt.Rebuilt.{Rebuilt}
-use Rattle.md_copy.specs.Listing.{HasFailedSlot}
 use Rattle.md_copy.specs.RebuildEvents.{IsOfRebuild}
 use Rattle.md_copy.specs.Rebuilding.{Rebuilds}
-use Rattle.md_copy.specs.Rebuilt.{failed_of}
 use Rattle.md_call_laws.specs.Rebuilds.RebuiltInLife.{HeldWhatItHad}
 
 -- A statement holds at each moment of each life, with the content that the life has there.
@@ -25,11 +20,6 @@ abbrev pub AtMomentsWith : (Moment → Content → Type 0) → Type 0
 AtMomentsWith Holds_at =
     (before : List Disk) (m : MirrorView) (a : Content) → IsStart before m → Holds (geometry_of m.array) a (world_of m none_in_flight)
     → (es : List Event) (rest : List (List Event)) (final : MirrorView) (t : Moment) (b : Content) → MirrorLifeWith m a es rest final t b → Holds_at t b
-
--- The log of each member of which a slot failed was read without a shift, or stored since: else the write of the log and that of the superblock
--- are no events of their own. The lists of these members are stored, and no others; so nothing is asked where no slot failed.
-abbrev pub LogsUnshifted : List Slot → MirrorView → Type 0
-LogsUnshifted failed v = (k : ℕ) (m : MemberView) → IsMember v.array k m → HasFailedSlot failed m → m.superblock.bblog_shift ≡ 0
 
 -- Events of a kind lead from a moment to this mirror, and the content stays what it is.
 pub record RunsTo (Of : Event → Type 0) (t : Moment) (content : Content) (new : MirrorView) : Type 0 where
@@ -44,7 +34,7 @@ pub record RunsTo (Of : Event → Type 0) (t : Moment) (content : Content) (new 
 abbrev pub RebuildIsARun : Type 0
 RebuildIsARun =
     AtMomentsWith (λ t content.
-    ((target : ℕ) (told : Rebuilt) (new : MirrorView) (h : Rebuilds target told t.mirror new) → LogsUnshifted (failed_of h.rebuilds.passes) t.mirror
+    ((target : ℕ) (told : Rebuilt) (new : MirrorView) (h : Rebuilds target told t.mirror new)
     → HeldWhatItHad target content t.mirror → RunsTo (IsOfRebuild target) t content h.rebuilds.by.enrolled))
 
 -- The rebuild is a run to the end of the call, too, where what is due then is stored: by these events, of
@@ -52,7 +42,7 @@ RebuildIsARun =
 abbrev pub RebuildRunsOn : Type 0
 RebuildRunsOn =
     AtMomentsWith (λ t content.
-    ((target : ℕ) (told : Rebuilt) (new : MirrorView) (h : Rebuilds target told t.mirror new) → LogsUnshifted (failed_of h.rebuilds.passes) t.mirror
+    ((target : ℕ) (told : Rebuilt) (new : MirrorView) (h : Rebuilds target told t.mirror new)
     → HeldWhatItHad target content t.mirror
     → (records_stored : MirrorView) (g : GoesOn only_others only_others IsStoring h.rebuilds.by.enrolled records_stored) (in_flight : AreInFlight h.rebuilds.by.enrolled.array t.requests)
     → AllLeftWhole g.events None h.rebuilds.by.enrolled t.requests (λ m r. (m ≡ records_stored) × (r ≡ t.requests)) (g.leads None t.requests in_flight)

@@ -1,7 +1,6 @@
 -- A rebuild that ends with a fault once passes may be made: up to where it is recorded a last time how far its target is rebuilt it is a run, and a
 -- crash while that is recorded is one of a run, too.
 use Rattle.std.specs.Prelude.{◌≡◌, ◌⊎◌, ℕ, true, List, None}
-use Rattle.std.proofs.Common.{inl, inr}
 use Rattle.md_assembly.specs.States.{is_recovering}
 use Rattle.md_bitmap.specs.Marks.{Bitmap}
 use Rattle.md_kept_members.specs.View.{MemberView}
@@ -22,8 +21,7 @@ use Rattle.md_copy.specs.Listing.{IsStoringList, NotesLists}
 use Rattle.md_copy.specs.Passing.{RecordsPass}
 use Rattle.md_copy.specs.RebuildEvents.{IsBeforeEnrol}
 use Rattle.md_copy.specs.Rebuilding.{BeginsRebuild, LacksMemoryToRebuild, LacksRoom}
-use Rattle.md_copy.specs.Rebuilt.{failed_of}
-use Rattle.md_call_laws.specs.Rebuilds.RebuildRuns.{AtMomentsWith, LogsUnshifted, RunsTo}
+use Rattle.md_call_laws.specs.Rebuilds.RebuildRuns.{AtMomentsWith, RunsTo}
 use Rattle.md_call_laws.specs.Rebuilds.RebuildCrashes.{HasPassed, IsCrashBefore, IsCrashUnfinished, IsSuperWhole}
 
 -- A rebuild came to this mirror, with these chunks copied. Then memory was refused, or a log had no room.
@@ -33,29 +31,17 @@ pub record HasGivenUp (target : ℕ) (copied : Bitmap) (old stopped : MirrorView
   pub begins : BeginsRebuild target old ready none
   pub why : LacksMemoryToRebuild target begins.now none copied ready stopped ⊎ ((k : ℕ) × LacksRoom k target begins.now none copied ready stopped)
 
--- the passes that were made by then, of which each that failed slots was listed
-abbrev pub passes_then : {target : ℕ} {m : MemberView} {none copied : Bitmap} {ready stopped : MirrorView}
-    → LacksMemoryToRebuild target m none copied ready stopped ⊎ ((k : ℕ) × LacksRoom k target m none copied ready stopped) → List PassView
-passes_then (inl (inl e)) = e.passes
-passes_then (inl (inr (inl e))) = e.passes
-passes_then (inl (inr (inr e))) = e.passes
-passes_then (inr (k, inl e)) = e.passes
-passes_then (inr (k, inr e)) = e.1.passes
-
-abbrev pub HasUnshifted : {target : ℕ} {copied : Bitmap} {old stopped : MirrorView} → HasGivenUp target copied old stopped → Type 0
-HasUnshifted {target} {copied} {old} {stopped} h = LogsUnshifted (failed_of (passes_then h.why)) old
-
 -- A rebuild up to the refusal is a run, along which the content stays.
 abbrev pub RefusedIsARun : Type 0
 RefusedIsARun =
     AtMomentsWith (λ t content.
-    ((target : ℕ) (copied : Bitmap) (stopped : MirrorView) (h : HasGivenUp target copied t.mirror stopped) → HasUnshifted h → RunsTo (IsBeforeEnrol target) t content stopped))
+    ((target : ℕ) (copied : Bitmap) (stopped : MirrorView) (h : HasGivenUp target copied t.mirror stopped) → RunsTo (IsBeforeEnrol target) t content stopped))
 
 -- A crash after the refusal, while it is recorded how far the target is rebuilt.
 abbrev pub CrashesLeaving : Type 0
 CrashesLeaving =
     AtMoments (λ t.
-    ((target : ℕ) (copied : Bitmap) (stopped new : MirrorView) (h : HasGivenUp target copied t.mirror stopped) → HasUnshifted h → Checkpoints target copied stopped new
+    ((target : ℕ) (copied : Bitmap) (stopped new : MirrorView) (h : HasGivenUp target copied t.mirror stopped) → Checkpoints target copied stopped new
     → (left : List Disk) → MayAllBeLeft stopped.disks new.disks (contents_of left) → IsSuperWhole target stopped new left → IsCrashBefore target t left))
 
 -- A crash after the refusal, where it can't be recorded how far the target is rebuilt, and its superblock
@@ -63,7 +49,7 @@ CrashesLeaving =
 abbrev pub CrashesUnleft : Type 0
 CrashesUnleft =
     AtMoments (λ t.
-    ((target : ℕ) (copied : Bitmap) (stopped new : MirrorView) (h : HasGivenUp target copied t.mirror stopped) → HasUnshifted h → FailsToCheckpoint target copied stopped new
+    ((target : ℕ) (copied : Bitmap) (stopped new : MirrorView) (h : HasGivenUp target copied t.mirror stopped) → FailsToCheckpoint target copied stopped new
     → (left : List Disk) → MayAllBeLeft stopped.disks new.disks (contents_of left) → AtDevice target stopped.disks left (λ d e. block_on e.content ≡ block_on d.content)
     → IsCrashBefore target t left))
 
@@ -71,14 +57,13 @@ CrashesUnleft =
 abbrev pub CrashesLeavingAnyhow : Type 0
 CrashesLeavingAnyhow =
     AtMoments (λ t.
-    ((target : ℕ) (copied : Bitmap) (stopped new : MirrorView) (h : HasGivenUp target copied t.mirror stopped) → HasUnshifted h
+    ((target : ℕ) (copied : Bitmap) (stopped new : MirrorView) (h : HasGivenUp target copied t.mirror stopped)
     → Checkpoints target copied stopped new ⊎ FailsToCheckpoint target copied stopped new
     → (left : List Disk) → MayAllBeLeft stopped.disks new.disks (contents_of left) → IsCrashUnfinished target t left))
 
 -- ---- where a list of a source could not be stored
 -- A rebuild came to this mirror by these events. Some of their writes may have failed. Each write of a
--- superblock that did left the old one, the new one or none. Each log that they store was read without a
--- shift, or stored since (`AllLeftWhole`). The target is recovering still.
+-- superblock that did left the old one, the new one or none (`AllLeftWhole`). The target is recovering still.
 pub record HasLost (target : ℕ) (t : Moment) (last : MirrorView) : Type 0 where
   pub chunks : List ℕ
   pub copied : Bitmap

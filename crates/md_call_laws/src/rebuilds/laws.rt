@@ -28,8 +28,7 @@ pub fn held_before()
 {}
 
 /// A rebuild that is done is a run of the mirror, from any moment of a life on, and the content stays what it was:
-/// up to the mirror in which its target is in sync, and on to the end of the call. Of a member of which a slot failed,
-/// so that its list is stored, it is asked that its log was read without a shift, or stored since.
+/// up to the mirror in which its target is in sync, and on to the end of the call.
 pub fn rebuild_runs()
     ensures enrolled { RebuildIsARun }
     ensures records_stored { RebuildRunsOn }
@@ -38,7 +37,8 @@ pub fn rebuild_runs()
 /// What a crash at any moment within a rebuild leaves, is what a crash of a run leaves: so an opening finds of it what
 /// the laws over lives say. Until the superblock that brings the target into sync stands, the target is not in
 /// sync; where it stands, the enrolment is done. Where another superblock of the target stands than before or after
-/// a call, the target is spoiled, and that opening has to leave it out.
+/// a call, the target is spoiled, and that opening has to leave it out. So it has a source whose log had a shift, if the
+/// crash came between that log and its superblock (`misread_after` of `md_array`).
 pub fn rebuild_crashes()
     ensures storing { CrashesStoring }
     ensures unrecorded { CrashesUnrecorded }

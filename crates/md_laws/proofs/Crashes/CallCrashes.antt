@@ -24,7 +24,7 @@ use Rattle.md_array.proofs.StepLemmas.MarksFailed.{store_marks_fails_happens}
 use Rattle.md_array.proofs.Worlds.CopyFailed.{copy_fails_happens}
 use Rattle.md_laws.specs.Left.{IsLeftByCrash, contents_of}
 use Rattle.md_laws.specs.Runs.{MirrorRun, Moment, then_as}
-use Rattle.md_laws.specs.CallCrashes.{HaveWholeSectors, BeginsWhole, HasWholeSectors, IsBesideEvent, IsLeftHalting, IsLeftWhole, IsCrashOf, IsUnshifted, IsWrittenBy, LeftWholeUntil, CrashesAtHalts, CrashesAtSteps, CrashesIn}
+use Rattle.md_laws.specs.CallCrashes.{HaveWholeSectors, BeginsWhole, HasWholeSectors, IsBesideEvent, IsLeftHalting, IsLeftWhole, IsCrashOf, IsWrittenBy, LeftWholeUntil, CrashesAtHalts, CrashesAtSteps, CrashesIn}
 use Rattle.md_laws.specs.CrashesWithin.{MayAllBeLeft}
 use Rattle.md_laws.proofs.Runs.Moments.{IsSoundAt, life_keeps, run_keeps, sound_when_opened}
 use Rattle.md_laws.proofs.Runs.Rests.{at_once, at_rest}
@@ -116,20 +116,20 @@ module _ (previous : Option Event) (t : Moment) (at : IsSoundAt t) (mid : Mirror
       })
 
   pub within_event : (e : Event) → IsInOrder previous t.mirror.array e → Did t.mirror t.requests e mid between → Happened e → WritesWhole e t.requests
-      → IsUnshifted e t.mirror → IsLeftWhole e t.mirror mid left → Ends e
-  within_event (Event.Record k) order did happens whole unshifted (inl super) =
+      → IsLeftWhole e t.mirror mid left → Ends e
+  within_event (Event.Record k) order did happens whole (inl super) =
       inl (inr (inr (inr (inl (record { on = k; next = mid; call = inl did.1; within = within; super = super })))))
-  within_event (Event.Record k) order did happens whole unshifted (inr short) =
+  within_event (Event.Record k) order did happens whole (inr short) =
       inl (inr (inr (inr (inr (inl (record { on = k; next = mid; call = did.1; within = within; old = short.stands; new = short.comes did.1.member did.1.may.at }))))))
-  within_event (Event.WriteFails k MemberPart.Superblock) order did happens whole unshifted super =
+  within_event (Event.WriteFails k MemberPart.Superblock) order did happens whole super =
       inl (inr (inr (inr (inl (record { on = k; next = mid; call = inr (inl did.1); within = within; super = super })))))
-  within_event (Event.RecordTargetFails k) order did happens whole unshifted super =
+  within_event (Event.RecordTargetFails k) order did happens whole super =
       inl (inr (inr (inr (inl (record { on = k; next = mid; call = inr (inr (inr did.1.leaves)); within = within; super = super })))))
-  within_event (Event.StoreMarks k b) order did happens whole unshifted asked =
+  within_event (Event.StoreMarks k b) order did happens whole asked =
       let r = did.1 in
       inl (inr (inl (record { on = k; block = b; inside = due_within t.mirror.array k b r.member r.may.in_sync order; next = mid; call = r; within = within })))
-  within_event (Event.WriteFails k (MemberPart.BitmapSector b)) order did happens whole unshifted asked = marks_fail k b order did.1
-  within_event (Event.WriteMember n k) order did happens whole unshifted asked =
+  within_event (Event.WriteFails k (MemberPart.BitmapSector b)) order did happens whole asked = marks_fail k b order did.1
+  within_event (Event.WriteMember n k) order did happens whole asked =
       inl (inr (inr (inl (record {
         request = did.0;
         others = t.requests;
@@ -141,7 +141,7 @@ module _ (previous : Option Event) (t : Moment) (at : IsSoundAt t) (mid : Mirror
         call = inl did.5;
         within = within;
       }))))
-  within_event (Event.WriteFails k (MemberPart.RequestData n)) order did happens whole unshifted asked =
+  within_event (Event.WriteFails k (MemberPart.RequestData n)) order did happens whole asked =
       inl (inr (inr (inl (record {
         request = did.0;
         others = t.requests;
@@ -153,35 +153,35 @@ module _ (previous : Option Event) (t : Moment) (at : IsSoundAt t) (mid : Mirror
         call = inr (inl did.5);
         within = within;
       }))))
-  within_event (Event.WriteFails k (MemberPart.CopiedSectors s n)) order did happens whole unshifted asked = copy_fails k s n did.1
-  within_event (Event.Fill k) order did happens whole unshifted asked =
+  within_event (Event.WriteFails k (MemberPart.CopiedSectors s n)) order did happens whole asked = copy_fails k s n did.1
+  within_event (Event.Fill k) order did happens whole asked =
       inl (inr (inr (inr (inr (inr (inr (inl (record { on = k; next = mid; call = did.1; within = within }))))))))
-  within_event (Event.Prepare k) order did happens whole unshifted asked =
+  within_event (Event.Prepare k) order did happens whole asked =
       inl (inr (inr (inr (inr (inr (inr (inr (inl (record { on = k; next = mid; call = did.1; within = within })))))))))
-  within_event (Event.StoreLog k listed) order did happens whole unshifted differs =
+  within_event (Event.StoreLog k listed) order did happens whole differs =
       let r = did.1 in
       elim (crashes_at_log k t.mirror mid (contents_of left) at.honest r (λ d was. differs r.member r.in_sync.member d was) within) [
         | inl before ↦ inl (inl before)
-        | inr after ↦ inr (record { mid = mid; between = between; did = did; does = happens at.honest unshifted; contents = after })
+        | inr after ↦ inr (record { mid = mid; between = between; did = did; does = happens at.honest tt; contents = after })
       ]
-  within_event (Event.WriteFails k MemberPart.Log) order did happens whole unshifted asked = log_fails k did.1
-  within_event (Event.Begin n r) order did happens whole unshifted asked = in_memory (Event.Begin n r) (happens at.honest tt).writes
-  within_event (Event.Finish n) order did happens whole unshifted asked = in_memory (Event.Finish n) (happens at.honest tt).writes
-  within_event (Event.ClearIdle c) order did happens whole unshifted asked = in_memory (Event.ClearIdle c) (happens at.honest tt).writes
-  within_event Event.MakeClean order did happens whole unshifted asked = in_memory Event.MakeClean (happens at.honest tt).writes
-  within_event (Event.Fail k) order did happens whole unshifted asked = in_memory (Event.Fail k) (happens at.honest tt).writes
-  within_event (Event.LowerOffset k s) order did happens whole unshifted asked = in_memory (Event.LowerOffset k s) (happens at.honest tt).writes
-  within_event Event.Resynced order did happens whole unshifted asked = in_memory Event.Resynced (happens at.honest tt).writes
-  within_event Event.Unresynced order did happens whole unshifted asked = in_memory Event.Unresynced (happens at.honest tt).writes
-  within_event (Event.NoteBad k more) order did happens whole unshifted asked = in_memory (Event.NoteBad k more) (happens at.honest tt).writes
-  within_event (Event.Copy from k s) order did happens whole unshifted asked = beside (Event.Copy from k s) did happens asked
-  within_event (Event.Remove k) order did happens whole unshifted asked = beside (Event.Remove k) did happens asked
-  within_event (Event.Add number device) order did happens whole unshifted asked = beside (Event.Add number device) did happens asked
-  within_event (Event.ReAdd own offset device after) order did happens whole unshifted asked = beside (Event.ReAdd own offset device after) did happens asked
-  within_event (Event.SpoilTarget k) order did happens whole unshifted asked = beside (Event.SpoilTarget k) did happens asked
-  within_event (Event.Enrol k role listed) order did happens whole unshifted asked = beside (Event.Enrol k role listed) did happens asked
-  within_event (Event.Admit k role listed) order did happens whole unshifted asked = beside (Event.Admit k role listed) did happens asked
-  within_event (Event.Checkpoint k sure listed) order did happens whole unshifted asked = beside (Event.Checkpoint k sure listed) did happens asked
+  within_event (Event.WriteFails k MemberPart.Log) order did happens whole asked = log_fails k did.1
+  within_event (Event.Begin n r) order did happens whole asked = in_memory (Event.Begin n r) (happens at.honest tt).writes
+  within_event (Event.Finish n) order did happens whole asked = in_memory (Event.Finish n) (happens at.honest tt).writes
+  within_event (Event.ClearIdle c) order did happens whole asked = in_memory (Event.ClearIdle c) (happens at.honest tt).writes
+  within_event Event.MakeClean order did happens whole asked = in_memory Event.MakeClean (happens at.honest tt).writes
+  within_event (Event.Fail k) order did happens whole asked = in_memory (Event.Fail k) (happens at.honest tt).writes
+  within_event (Event.LowerOffset k s) order did happens whole asked = in_memory (Event.LowerOffset k s) (happens at.honest tt).writes
+  within_event Event.Resynced order did happens whole asked = in_memory Event.Resynced (happens at.honest tt).writes
+  within_event Event.Unresynced order did happens whole asked = in_memory Event.Unresynced (happens at.honest tt).writes
+  within_event (Event.NoteBad k more) order did happens whole asked = in_memory (Event.NoteBad k more) (happens at.honest tt).writes
+  within_event (Event.Copy from k s) order did happens whole asked = beside (Event.Copy from k s) did happens asked
+  within_event (Event.Remove k) order did happens whole asked = beside (Event.Remove k) did happens asked
+  within_event (Event.Add number device) order did happens whole asked = beside (Event.Add number device) did happens asked
+  within_event (Event.ReAdd own offset device after) order did happens whole asked = beside (Event.ReAdd own offset device after) did happens asked
+  within_event (Event.SpoilTarget k) order did happens whole asked = beside (Event.SpoilTarget k) did happens asked
+  within_event (Event.Enrol k role listed) order did happens whole asked = beside (Event.Enrol k role listed) did happens asked
+  within_event (Event.Admit k role listed) order did happens whole asked = beside (Event.Admit k role listed) did happens asked
+  within_event (Event.Checkpoint k sure listed) order did happens whole asked = beside (Event.Checkpoint k sure listed) did happens asked
 
 -- ---- along a list
 -- after an event that was done
@@ -252,7 +252,7 @@ pub crashes_at : (es : List Event) (previous : Option Event) (t : Moment) (Then 
     → LeftWholeUntil es previous t.mirror t.requests Then turn left stop → IsCrashOf es t left
 crashes_at [] previous t Then turn at whole left stop until = absurd stop
 crashes_at (e ∷ es) previous t Then turn at whole left (inl here) until =
-    crashes_here e es t left (within_event previous t at turn.0 turn.1 left here.0 e turn.2 turn.3 turn.4 (writes_whole e es t.requests whole.in_flight) until here.1)
+    crashes_here e es t left (within_event previous t at turn.0 turn.1 left here.0 e turn.2 turn.3 turn.4 (writes_whole e es t.requests whole.in_flight) here.1)
 crashes_at (e ∷ es) previous t Then turn at whole left (inr later) until =
     let does = turn.4 at.honest until.0 in
     let next = then_as t e turn.0 turn.1 in

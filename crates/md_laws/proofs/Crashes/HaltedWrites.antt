@@ -156,5 +156,5 @@ crashes_at_halted_log k old new left c honest h canonical may either = elim (don
         array = refl;
         disks = subst (λ (ws : List Write). AreWritten k ws old.disks after.0) (sym h.among) (refl, after.1);
       } in
-      inr (other, (stores, λ unshifted. log_happens k old other c stores canonical unshifted), after.2)
+      inr (other, (stores, log_happens k old other c stores canonical), after.2)
 ]

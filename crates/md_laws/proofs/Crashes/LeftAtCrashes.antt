@@ -138,7 +138,7 @@ pub record IsSortedBeside (Beside : ℕ → Type 0) (t : Moment) (left : List Di
   pub cut : ℕ → Stored
   pub is_cut : crashes.MayStandAtCrash (geometry_of t.mirror.array) (history_of moment).now cut
   pub read : (k : ℕ) → (read_in t.mirror.array left k ≡ cut k) ⊎ ((read_in t.mirror.array left k).super ≡ None)
-  pub device : (k : ℕ) (e : Disk) (m : MemberView) → slice_get left k ≡ Some e → IsMember t.mirror.array k m → IsLeftDevice t.mirror.array m t.failed_at (t.spoiled k) e.content
+  pub device : (k : ℕ) (e : Disk) (m : MemberView) → slice_get left k ≡ Some e → IsMember t.mirror.array k m → IsLeftDevice t.mirror.array m t.failed_at (t.misread k) e.content
 
 abbrev pub IsSorted : Moment → List Disk → Type 0
 IsSorted t left = IsSortedBeside (λ _. ⊥) t left
@@ -165,7 +165,7 @@ sorted_like t found left same s = record {
     | inl is ↦ inl (here ∙ is)
     | inr none ↦ inr (ap (λ (x : Stored). x.super) here ∙ none)
   ];
-  device = λ k e m at is. let d = got_like found left same k e at in subst (IsLeftDevice t.mirror.array m t.failed_at (t.spoiled k)) d.2 (s.device k d.0 m d.1 is);
+  device = λ k e m at is. let d = got_like found left same k e at in subst (IsLeftDevice t.mirror.array m t.failed_at (t.misread k)) d.2 (s.device k d.0 m d.1 is);
 }
 
 -- the crash came within a write of data, which is let through at that moment
@@ -192,7 +192,7 @@ module _ (Beside : ℕ → Type 0) (t : Moment) (at : IsSoundAt t) where
   abbrev a : ArrayView
   a = t.mirror.array
 
-  as_it_was : (k : ℕ) (d : Disk) (m : MemberView) → slice_get v.disks k ≡ Some d → IsMember a k m → IsLeftDevice a m t.failed_at (t.spoiled k) d.content
+  as_it_was : (k : ℕ) (d : Disk) (m : MemberView) → slice_get v.disks k ≡ Some d → IsMember a k m → IsLeftDevice a m t.failed_at (t.misread k) d.content
   as_it_was k d m there is = record { parts = parts_of v at.sound k d m there is; read = at.read k d m there is }
 
   between : IsSortedBeside Beside t v.disks
@@ -222,14 +222,14 @@ module _ (Beside : ℕ → Type 0) (t : Moment) (at : IsSoundAt t) where
     there_before : (e : Disk) → slice_get disks k ≡ Some e → (d : Disk) × (slice_get v.disks k ≡ Some d)
     there_before e is = let low = slice_get_within disks k e is in let many = tried.as_many in got_within v.disks k (omega arith)
 
-    each_device : ((d e : Disk) → slice_get v.disks k ≡ Some d → slice_get disks k ≡ Some e → IsLeftDevice a m t.failed_at (t.spoiled k) e.content)
-        → (j : ℕ) (e : Disk) (n : MemberView) → slice_get disks j ≡ Some e → IsMember a j n → IsLeftDevice a n t.failed_at (t.spoiled j) e.content
+    each_device : ((d e : Disk) → slice_get v.disks k ≡ Some d → slice_get disks k ≡ Some e → IsLeftDevice a m t.failed_at (t.misread k) e.content)
+        → (j : ℕ) (e : Disk) (n : MemberView) → slice_get disks j ≡ Some e → IsMember a j n → IsLeftDevice a n t.failed_at (t.misread j) e.content
     each_device this j e n there is = by_same j k
         (λ here.
         let now : slice_get disks k ≡ Some e = sym (ap (slice_get disks) here) ∙ there in
         let d = there_before e now in
         let same : n ≡ m = same_Some n m (sym is ∙ ap (slice_get a.members) here ∙ is_member) in
-        subst (λ (i : ℕ). IsLeftDevice a n t.failed_at (t.spoiled i) e.content) (sym here) (subst (λ (x : MemberView). IsLeftDevice a x t.failed_at (t.spoiled k) e.content) (sym same) (this d.0 e d.1 now)))
+        subst (λ (i : ℕ). IsLeftDevice a n t.failed_at (t.misread i) e.content) (sym here) (subst (λ (x : MemberView). IsLeftDevice a x t.failed_at (t.misread k) e.content) (sym same) (this d.0 e d.1 now)))
         (λ apart. as_it_was j e n (sym (tried.others j apart) ∙ there) is)
 
     elsewhere : (j : ℕ) → j ≢ k → read_in a disks j ≡ read_in a v.disks j
@@ -249,7 +249,7 @@ module _ (Beside : ℕ → Type 0) (t : Moment) (at : IsSoundAt t) where
     is_member : IsMember a k m
     is_member = torn.may.intent.in_sync.member
 
-    torn_device : (d e : Disk) → slice_get v.disks k ≡ Some d → slice_get torn.found k ≡ Some e → IsLeftDevice a m t.failed_at (t.spoiled k) e.content
+    torn_device : (d e : Disk) → slice_get v.disks k ≡ Some d → slice_get torn.found k ≡ Some e → IsLeftDevice a m t.failed_at (t.misread k) e.content
     torn_device d e was is =
         let parts = parts_of v at.sound k d m was is_member in
         let same = torn.tried.outside d e was is in
@@ -257,7 +257,7 @@ module _ (Beside : ℕ → Type 0) (t : Moment) (at : IsSoundAt t) where
           parts = parts_on a m d.content e.content same.size parts;
           read = read_beside_data a m d.content e.content parts l.request.sector (request_sectors l.request) (inside_array v t.requests l.others l.request at.sound at.in_flight l.in_flight)
               (subst (λ (x : ℕ). SameOutside (512 * (m.superblock.data_offset + l.request.sector)) x d.content e.content) (whole_sectors l.request l.whole) same)
-              t.failed_at (t.spoiled k) (at.read k d m was is_member);
+              t.failed_at (t.misread k) (at.read k d m was is_member);
         }
 
     torn_cut : crashes.IsTorn (geometry_of a) (world_of v (among l.request l.others)) (read_in a torn.found)
@@ -334,13 +334,13 @@ module _ (Beside : ℕ → Type 0) (t : Moment) (at : IsSoundAt t) where
     abbrev e_marks : Event
     e_marks = Event.StoreMarks k block
 
-    marked_device : (d e : Disk) → slice_get v.disks k ≡ Some d → slice_get next.disks k ≡ Some e → IsLeftDevice a r.member t.failed_at (t.spoiled k) e.content
+    marked_device : (d e : Disk) → slice_get v.disks k ≡ Some d → slice_get next.disks k ≡ Some e → IsLeftDevice a r.member t.failed_at (t.misread k) e.content
     marked_device d e was is =
         let m = r.member in
         let is_member = r.may.in_sync.member in
         record {
           parts = parts_on a m d.content e.content (r.disks.tried.outside d e was is).size (parts_of v at.sound k d m was is_member);
-          read = read_marked k block v next at.sound inside r d e was is (at.honest k d was) t.requests t.failed_at (t.spoiled k) (at.read k d m was is_member);
+          read = read_marked k block v next at.sound inside r d e was is (at.honest k d was) t.requests t.failed_at (t.misread k) (at.read k d m was is_member);
         }
 
     marked : IsSortedBeside Beside t next.disks
@@ -398,7 +398,7 @@ module _ (Beside : ℕ → Type 0) (t : Moment) (at : IsSoundAt t) where
           stored_there disks a k m e is_member is ∙ super_alone a m d.content e.content parts beside
           ∙ (λ i. record (stored_of a m d.content) { super = same i; listed = lists_alike a m content e.content lists i })
 
-      super_device : (t.spoiled k ≡ false → HasOwnSuper a.shared m.superblock e.content) → IsLeftDevice a m t.failed_at (t.spoiled k) e.content
+      super_device : (t.misread k ≡ false → HasOwnSuper a.shared m.superblock e.content) → IsLeftDevice a m t.failed_at (t.misread k) e.content
       super_device has = record {
         parts = parts_on a m d.content e.content beside.size parts;
         read = record {
@@ -413,10 +413,10 @@ module _ (Beside : ℕ → Type 0) (t : Moment) (at : IsSoundAt t) where
       abbrev block : List ℕ
       block = block_on e.content
 
-      each_super : (t.spoiled k ≡ false → HasOwnSuper a.shared m.superblock e.content) → (j : ℕ) (x : Disk) (n : MemberView) → slice_get disks j ≡ Some x → IsMember a j n
-          → IsLeftDevice a n t.failed_at (t.spoiled j) x.content
+      each_super : (t.misread k ≡ false → HasOwnSuper a.shared m.superblock e.content) → (j : ℕ) (x : Disk) (n : MemberView) → slice_get disks j ≡ Some x → IsMember a j n
+          → IsLeftDevice a n t.failed_at (t.misread j) x.content
       each_super has = each_device k m at_super disks is_member tried
-          (λ b x _ there. subst (λ (y : Disk). IsLeftDevice a m t.failed_at (t.spoiled k) y.content) (got_same disks k e x is there) (super_device has))
+          (λ b x _ there. subst (λ (y : Disk). IsLeftDevice a m t.failed_at (t.misread k) y.content) (got_same disks k e x is there) (super_device has))
 
       -- the old one is read there, or none
       unrecorded : ReadsAs block (block_on d.content) ⊎ (super_in block ≡ None) → IsSortedBeside Beside t disks
@@ -642,9 +642,10 @@ module _ (Beside : ℕ → Type 0) (t : Moment) (at : IsSoundAt t) where
       → KeepsMemory (world_of v t.requests) (world_of mid t.requests) → (world_of mid t.requests).events ≡ (world_of v t.requests).events
       → (then_as t e mid t.requests).tried ≡ t.tried → (then_as t e mid t.requests).failed_at ≡ t.failed_at → ((n : ℕ) → (then_as t e mid t.requests).away n ≡ t.away n)
       → ((unstored : ℕ → Bool) (n : ℕ) → spoiled_after e (world_of v t.requests) unstored n ≡ unstored n)
+      → ((n : ℕ) → (then_as t e mid t.requests).misread n ≡ t.misread n)
       → ((n : ℕ) → Beside n → t.log_unknown n ≡ false → (then_as t e mid t.requests).log_unknown n ≡ false)
       → IsSortedBeside Beside t mid.disks
-  changed e mid does same becomes joins memory count tried counted away still_unstored log_known = record {
+  changed e mid does same becomes joins memory count tried counted away still_unstored still_read log_known = record {
     events = e ∷ [];
     few = omega arith;
     moment = then_as t e mid t.requests;
@@ -664,10 +665,10 @@ module _ (Beside : ℕ → Type 0) (t : Moment) (at : IsSoundAt t) where
     read = λ j. inl (ap (λ (x : ArrayView). read_in x mid.disks j) (sym same));
     device = λ j x n there is.
         let is_there : IsMember mid.array j n = subst (λ (y : ArrayView). IsMember y j n) (sym same) is in
-        subst (λ (y : ArrayView). IsLeftDevice y n t.failed_at (t.spoiled j) x.content) same (record {
+        subst (λ (y : ArrayView). IsLeftDevice y n t.failed_at (t.misread j) x.content) same (record {
           parts = parts_of mid does.sound j x n there is_there;
-          read = subst (λ b. IsReadAsKept mid.array n t.failed_at b x.content) (still_unstored t.spoiled j)
-              (subst (λ at. IsReadAsKept mid.array n at ((then_as t e mid t.requests).spoiled j) x.content) counted (does.read t.failed_at t.spoiled at.read j x n there is_there));
+          read = subst (λ b. IsReadAsKept mid.array n t.failed_at b x.content) (still_read j)
+              (subst (λ at. IsReadAsKept mid.array n at ((then_as t e mid t.requests).misread j) x.content) counted (does.read t.failed_at t.misread at.read j x n there is_there));
         });
   }
 
@@ -675,13 +676,13 @@ module _ (Beside : ℕ → Type 0) (t : Moment) (at : IsSoundAt t) where
   filled : (k : ℕ) (mid : MirrorView) → Fills k v mid → IsSortedBeside Beside t mid.disks
   filled k mid fills =
       let does = fill_happens k v mid at.sound fills at.honest t.requests at.in_flight in
-      changed (Event.Fill k) mid does fills.array (λ _. refl) (λ _. tt) (device_memory (world_of v t.requests) k does.step.1.0 (world_of mid t.requests) does.step.1.3) (ap (λ (w : World). w.events) does.step.1.3) refl refl (λ _. refl) (λ _ _. refl) (λ _ _ known. known)
+      changed (Event.Fill k) mid does fills.array (λ _. refl) (λ _. tt) (device_memory (world_of v t.requests) k does.step.1.0 (world_of mid t.requests) does.step.1.3) (ap (λ (w : World). w.events) does.step.1.3) refl refl (λ _. refl) (λ _ _. refl) (λ _. refl) (λ _ _ known. known)
 
   -- and so within a preparing
   prepared : (k : ℕ) (mid : MirrorView) → (Beside k → ⊥) → Prepares k v mid → IsSortedBeside Beside t mid.disks
   prepared k mid none prepares =
       let does = prepare_happens k v mid at.sound prepares at.honest t.requests at.in_flight in
-      changed (Event.Prepare k) mid does prepares.array (λ _. refl) (λ _. tt) (device_memory (world_of v t.requests) k does.step.1.0 (world_of mid t.requests) does.step.1.3) (ap (λ (w : World). w.events) does.step.1.3) refl refl (λ _. refl) (λ _ _. refl)
+      changed (Event.Prepare k) mid does prepares.array (λ _. refl) (λ _. tt) (device_memory (world_of v t.requests) k does.step.1.0 (world_of mid t.requests) does.step.1.3) (ap (λ (w : World). w.events) does.step.1.3) refl refl (λ _. refl) (λ _ _. refl) (λ _. refl)
       (λ n beside known. put-miss k true t.log_unknown n (λ same. none (subst Beside same beside)) ∙ known)
 
   preparing : (left : List Disk) (l : IsLeftPreparing t left) → (Beside l.on → ⊥) → IsSortedBeside Beside t left

@@ -92,7 +92,7 @@ module _ (t : Moment) (at_t : IsSoundAt t) (before : List Disk) (is : ArrayView)
           alike = bitmap_alone was f.member old content d.parts f.as_left.outside;
           read = stays was f.member t.failed_at false old content (block_beside_bitmap was f.member old content d.parts f.as_left.outside) (log_beside_bitmap was f.member old content d.parts f.as_left.outside)
               (λ width. ap (λ (bytes : ℕ). bytes / 512) f.as_left.chunk_size ∙ width)
-              (subst (λ b. IsReadAsKept was f.member t.failed_at b old) (r.unspoiled k j there) d.read);
+              (subst (λ b. IsReadAsKept was f.member t.failed_at b old) (r.readable k j there) d.read);
         }
 
     abbrev info : MemberInfo

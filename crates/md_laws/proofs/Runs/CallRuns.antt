@@ -153,7 +153,7 @@ note_bad_is_a_call k more old new sound notes in_sync resynced of all previous r
 
 pub store_log_is_a_call : StoreLogIsACall
 store_log_is_a_call k old new sound r canonical previous requests listed =
-    (new, requests, tt, (refl, r), λ honest unshifted. log_happens k old new sound r canonical unshifted honest requests listed, (refl, refl))
+    (new, requests, tt, (refl, r), λ honest whole. log_happens k old new sound r canonical honest requests listed, (refl, refl))
 
 pub store_log_failure_is_a_call : StoreLogFailureIsACall
 store_log_failure_is_a_call k old new sound fails previous requests listed =

@@ -10,7 +10,6 @@ use Rattle.md_model.specs.Content.{Content}
 use Rattle.md_model.specs.Devices.{Stored, Super}
 use Rattle.md_model.specs.Sectors.{Geometry}
 use Rattle.md_model.specs.Worlds.{World}
-use Rattle.md_model.proofs.Lives.Lives.{sound_in_sync}
 use Rattle.md_super.specs.declared.superblock.Superblock.{Superblock}
 use Rattle.md_super.specs.Log.{has_bad_block_log}
 use Rattle.md_kept_members.specs.OnDevices.Storing.{sector_from_super}
@@ -19,15 +18,13 @@ use Rattle.md_array.specs.Steps.ReAdd.{ReAdds}
 use Rattle.md_array.specs.ReadAsKept.{HasOwnSuper, IsOwnSuper, IsSuperOn}
 use Rattle.md_array.specs.Worlds.{block_on, is_listed, is_logged, list_bit, stored_of, super_in, super_of, world_of}
 use Rattle.md_array.proofs.StepLemmas.OneMember.{stored_there}
-use Rattle.md_array.proofs.Worlds.InSync.{in_sync_there}
 use Rattle.md_array.proofs.Worlds.Listed.{listed_kept_of}
 use Rattle.md_array.proofs.Worlds.PartsApart.{HasParts, bitmap_alone, block_beside_bitmap, log_beside_bitmap, parts_of}
 use Rattle.md_array.proofs.Worlds.ReadAsKept.{own_stays}
 use Rattle.md_array.proofs.Worlds.Supers.{super_shown}
 use Rattle.md_laws.specs.LeftBehind.{FailedJoins, IsStill, LogJoins, MissingJoins}
-use Rattle.md_laws.specs.Runs.{history_of}
 use Rattle.md_laws.proofs.Openings.Reopened.{super_on}
-use Rattle.md_laws.proofs.Runs.LeftBehind.{failed_behind, failed_clear, failed_later, log_clear, log_held, log_later, missing_later}
+use Rattle.md_laws.proofs.Runs.LeftBehind.{failed_behind, failed_clear, failed_later, log_held, log_later, missing_later}
 use Rattle.md_laws.proofs.Runs.MirrorContents.{life_held_at}
 use Rattle.md_laws.proofs.Crashes.LeftAtCrashes.{sorted}
 
@@ -101,18 +98,18 @@ same_sizes : (g : Geometry) (a b : ArrayView) → geometry_of a ≡ g → geomet
 same_sizes g a b x y = ap (λ (z : Geometry). z.size) (x ∙ sym y)
 
 pub failed_joins : FailedJoins
-failed_joins before m a start holds es rest final t b life k f o d is_member there more others newest last c degraded j device new r honest still =
+failed_joins before m a start holds es rest final t b life k clear f o d is_member there more others newest last c degraded j device new r honest still =
     let g = geometry_of m.array in
     let then = failed_behind before m a start holds es rest final t b life k f in
     let later = failed_later before m a start holds es rest final t b life k f more others newest last c degraded in
     let sound = then.held.sound in
     let shown = stored_there f.mirror.disks f.mirror.array k o d is_member there in
-    inr (joined_behind f.mirror.array o d.content (parts_of f.mirror sound.sound k d o there is_member) ((sound.read k d o there is_member).super (failed_clear before m a start holds es rest final t b life k f))
+    inr (joined_behind f.mirror.array o d.content (parts_of f.mirror sound.sound k d o there is_member) ((sound.read k d o there is_member).super (failed_clear t k f clear))
     j device last.mirror new r honest still (same_sizes g last.mirror.array f.mirror.array later.held.geometry then.held.geometry) g (world_of last.mirror last.requests) c
     (subst (λ (x : Stored). IsBehind g c x (world_of last.mirror last.requests)) shown later.behind))
 
 pub log_joins : LogJoins
-log_joins before m a start holds es rest final t b life k f o d is_member there more others newest last c degraded j device new r honest still no_less =
+log_joins before m a start holds es rest final t b life k clear f o d is_member there more others newest last c degraded j device new r honest still no_less =
     let g = geometry_of m.array in
     let then = log_held before m a start holds es rest final t b life k f in
     let later = log_later before m a start holds es rest final t b life k f in
@@ -120,16 +117,15 @@ log_joins before m a start holds es rest final t b life k f o d is_member there 
     -- of one that lists all nothing is asked: so the array is as large as it was
     let late = later (record ((world_of f.mirror f.requests).stored k) { listed = λ _. true }) (λ s low. refl) (λ s low on. absurd (true≢false on)) more others newest last c degraded in
     let same = same_data f.mirror.array o d.content (parts_of f.mirror then.sound.sound k d o there is_member)
-    ((then.sound.read k d o there is_member).super (log_clear before m a start holds es rest final t b life k f))
+    ((then.sound.read k d o there is_member).super clear)
     j device last.mirror new r honest still (same_sizes g last.mirror.array f.mirror.array late.held.geometry then.geometry) in
     inr (later (stored_of new.array r.recorded.takes.member device.content) (λ s low. same s ∙ sym (ap (λ (x : Stored). x.content s) shown)) no_less more others newest last c degraded).behind
 
 pub missing_joins : MissingJoins
-missing_joins before m a start holds es rest final t b life k next r c becomes more others newest last d degraded j device new back honest still =
+missing_joins before m a start holds es rest final t b life k clear next r c becomes more others newest last d degraded j device new back honest still =
     let g = geometry_of m.array in
     let held = life_held_at before m a start holds es rest final t b life in
     let later = missing_later before m a start holds es rest final t b life k next r c becomes more others newest last d degraded in
     let x = (sorted t held.sound r.again.devices.left r.again.devices.is_left).device k r.device r.member r.at r.in_sync.member in
-    let clear = sound_in_sync g (super_of final.array.shared) (history_of t) held.held.kept k (in_sync_there t.mirror.disks t.mirror.array t.requests k r.member r.in_sync) in
     inr (joined_behind t.mirror.array r.member r.device.content x.parts (x.read.super clear)
     j device last.mirror new back honest still (same_sizes g last.mirror.array t.mirror.array later.held.geometry held.geometry) g (world_of last.mirror last.requests) d later.behind)

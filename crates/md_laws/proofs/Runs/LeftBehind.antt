@@ -1,5 +1,5 @@
 -- A member that failed differs from the content only in marked chunks, as long as some role is empty.
-use Rattle.std.proofs.Common.{◌≡◌, ℕ, ◌<◌, ◌≤◌, inl, inr, Bool, true, false, true≢false, List, [], ◌∷◌, length, Option, slice_get, Some, refl, sym, ap, ◌∙◌, subst, arith}
+use Rattle.std.proofs.Common.{◌≡◌, ℕ, ◌<◌, ◌≤◌, inl, inr, true, false, true≢false, List, [], ◌∷◌, length, Option, slice_get, Some, refl, sym, ap, ◌∙◌, subst, arith}
 use Rattle.md_model.specs.Sectors.{Geometry}
 use Rattle.md_model.specs.Behind.{IsBehind, IsDegraded, Leaves}
 use Rattle.md_model.specs.Content.{Content, Becomes, BecomesAtOpening, Holds}
@@ -9,10 +9,9 @@ use Rattle.md_model.specs.Events.{Event, MemberPart, Step}
 use Rattle.md_model.specs.Openings.{IsWithinLimits}
 use Rattle.md_model.specs.Lives.{Reopens}
 use Rattle.md_model.specs.Runs as runs
-use Rattle.md_model.specs.Runs.{spoiled_after}
 use Rattle.md_model.specs.Worlds as worlds
 use Rattle.md_model.specs.Worlds.{Request, World}
-use Rattle.md_model.proofs.Lives.Lives.{sound_in_sync, start_again}
+use Rattle.md_model.proofs.Lives.Lives.{start_again}
 use Rattle.md_model.proofs.Content.BehindSteps.{behind_leaving, behind_log, behind_step}
 use Rattle.md_model.specs.States as states
 use Rattle.md_model.proofs.Cases.{none_some}
@@ -25,6 +24,7 @@ use Rattle.md_model.proofs.Steps.Keeps.{IsKept, kept_step}
 use Rattle.md_kept_members.specs.View.{MemberView}
 use Rattle.md_state.specs.Members.{IsInSync, is_degraded}
 use Rattle.md_state.specs.View.{Disk, MirrorView, geometry_of}
+use Rattle.md_array.specs.ReadAsKept.{misread_after}
 use Rattle.md_array.specs.Worlds.{block_on, none_in_flight, stored_of, super_of, world_of}
 use Rattle.md_array.proofs.StepLemmas.OneMember.{stored_there}
 use Rattle.md_array.proofs.Worlds.Supers.{super_shown}
@@ -66,7 +66,7 @@ module _ (g : Geometry) (small : IsWithinLimits g) (opened : Super) where
       let w = world_of m requests in
       record {
         held = record { kept = kept_step g small opened h e w is.held.kept s; holds = holds_step g a b h.now e w is.held.kept.tracked is.held.holds s becomes };
-        sound = record { sound = leads.sound; read = leads.read t.failed_at t.spoiled is.sound.read; honest = x.does.honest; in_flight = x.does.in_flight };
+        sound = record { sound = leads.sound; read = leads.read t.failed_at t.misread is.sound.read; honest = x.does.honest; in_flight = x.does.in_flight };
         geometry = leads.geometry ∙ is.geometry;
       }
 
@@ -194,10 +194,10 @@ behind_life g small d opened t a es (more ∷ rest) final last b chunks is life 
     behind_life g small d life.1 (opened_as life.1) life.3 more rest final last b (same g small opened chunks life.0 life.2 mid.held life.1 life.6)
     (behind_again g small opened chunks life.0 life.2 mid.held life.1 life.6 life.3 life.7 d life.5 mid.behind) life.8
 
--- a failure changes nothing of the content, nor whose superblock is spoiled
-same_content : (g : Geometry) (w : World) (a : Content) (k : ℕ) (e : Event) → Leaves e k → Becomes g e w a a × ((spoiled : ℕ → Bool) → spoiled_after e w spoiled ≡ spoiled)
-same_content g w a k (Event.Fail j) it = (refl, λ _. refl)
-same_content g w a k (Event.WriteFails j part) it = (refl, λ _. refl)
+-- a failure changes nothing of the content
+same_content : (g : Geometry) (w : World) (a : Content) (k : ℕ) (e : Event) → Leaves e k → Becomes g e w a a
+same_content g w a k (Event.Fail j) it = refl
+same_content g w a k (Event.WriteFails j part) it = refl
 same_content g w a k e it = absurd it
 
 pub failed_behind : (before : List Disk) (m : MirrorView) (a : Content) → IsStart before m → Holds (geometry_of m.array) a (world_of m none_in_flight)
@@ -212,21 +212,18 @@ failed_behind before m a start holds es rest final t b life k f =
     let s = leads_to g small opened t b is f.event f.mirror f.requests f.does in
     let on = in_sync_there t.mirror.disks t.mirror.array t.requests k f.member f.in_sync in
     record {
-      held = held_then g small opened t b is f.event f.mirror f.requests f.does b (same_content g w b k f.event f.it).0;
+      held = held_then g small opened t b is f.event f.mirror f.requests f.does b (same_content g w b k f.event f.it);
       behind = behind_leaving g b w is.held.kept.tracked is.held.holds k on f.event f.it (world_of f.mirror f.requests) s.1;
     }
 
--- it was in sync, so its superblock is not spoiled
-pub failed_clear : (before : List Disk) (m : MirrorView) (a : Content) → IsStart before m → Holds (geometry_of m.array) a (world_of m none_in_flight)
-    → (es : List Event) (rest : List (List Event)) (final : MirrorView) (t : Moment) (b : Content) → MirrorLifeWith m a es rest final t b
-    → (k : ℕ) (f : MemberFails t k) → (failed_then t k f).spoiled k ≡ false
-failed_clear before m a start holds es rest final t b life k f =
-    let g = geometry_of m.array in
-    let w = world_of t.mirror t.requests in
-    let is = life_held_at before m a start holds es rest final t b life in
-    let stays : spoiled_after f.event w t.spoiled ≡ t.spoiled = (same_content g w b k f.event f.it).1 t.spoiled in
-    ap (λ (s : ℕ → Bool). s k) stays
-    ∙ sound_in_sync g (super_of final.array.shared) (history_of t) is.held.kept k (in_sync_there t.mirror.disks t.mirror.array t.requests k f.member f.in_sync)
+-- nor whom an opening misreads
+pub failed_clear : (t : Moment) (k : ℕ) (f : MemberFails t k) → t.misread k ≡ false → (failed_then t k f).misread k ≡ false
+failed_clear t k f clear = same_read f.event f.it ∙ clear
+  where
+    same_read : (e : Event) → Leaves e k → misread_after e t.mirror.array (world_of t.mirror t.requests) t.misread k ≡ t.misread k
+    same_read (Event.Fail j) it = refl
+    same_read (Event.WriteFails j part) it = refl
+    same_read e it = absurd it
 
 pub failed_later : (before : List Disk) (m : MirrorView) (a : Content) → IsStart before m → Holds (geometry_of m.array) a (world_of m none_in_flight)
     → (es : List Event) (rest : List (List Event)) (final : MirrorView) (t : Moment) (b : Content) → MirrorLifeWith m a es rest final t b
@@ -259,9 +256,6 @@ module _ (before : List Disk) (m : MirrorView) (a : Content) (start : IsStart be
 
   pub log_held : IsHeldAt log_g log_opened (log_failed_then t k f) b
   log_held = held_then log_g (starts_small before m start) log_opened t b log_is (Event.WriteFails k MemberPart.Log) f.mirror f.requests f.does b refl
-
-  pub log_clear : t.spoiled k ≡ false
-  log_clear = sound_in_sync log_g log_opened (history_of t) log_is.held.kept k log_on
 
   pub log_later : (device : Stored) → ((s : ℕ) → s < m.array.chunks.size → device.content s ≡ ((world_of f.mirror f.requests).stored k).content s)
       → ((s : ℕ) → s < m.array.chunks.size → device.listed s ≡ false → ((world_of t.mirror t.requests).stored k).listed s ≡ false)

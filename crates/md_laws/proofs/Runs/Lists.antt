@@ -1,6 +1,6 @@
 -- The log of a member that is rebuilt lists what its list in memory has, as long as the log is known, if it was so at the opening.
-use Rattle.std.proofs.Common.{◌≡◌, ℕ, inl, inr, Bool, true, false, true≢false, ◌&&◌, ◌||◌, eqb, nat_lt, List, [], ◌∷◌, Some, refl, sym, ap, ◌∙◌, subst}
-use Rattle.md_model.specs.Sectors.{Geometry, chunk_of, put}
+use Rattle.std.proofs.Common.{◌≡◌, ℕ, inl, inr, Bool, true, false, true≢false, ◌&&◌, ◌||◌, nat_lt, List, [], ◌∷◌, Some, refl, sym, ap, ◌∙◌, subst}
+use Rattle.md_model.specs.Sectors.{Geometry, put}
 use Rattle.md_model.specs.States.{State, is_in_sync}
 use Rattle.md_model.specs.States.State.{InSync, Recovering, Stale, Spare, Faulty}
 use Rattle.md_model.specs.Devices.{Stored, Super}

@@ -10,6 +10,7 @@ use Rattle.md_model.specs.Worlds.{World}
 use Rattle.md_model.specs.Content.{Content, Holds}
 use Rattle.md_model.proofs.Content.ContentLives.{some_content}
 use Rattle.md_state.specs.View.{Disk, MirrorView, geometry_of}
+use Rattle.md_array.specs.ReadAsKept.{misread_after}
 use Rattle.md_array.specs.Worlds.{none_in_flight, super_of, world_of}
 use Rattle.md_array.proofs.General.Resting.{world_rests}
 use Rattle.md_laws.specs.Runs.{HasRested, IsStart, MirrorRun, Moment, history_of, log_unknown_after, then_as}
@@ -36,6 +37,7 @@ rests_run (e ∷ es) t mid last r s =
     let same : then_as (record t { mirror = mid.mirror }) e x.0 x.1 ≡ then_as t e x.0 x.1 =
     λ i. record (then_as t e x.0 x.1) {
       spoiled = spoiled_after e (world_rests t.mirror mid.mirror r.rests t.requests i) t.spoiled;
+      misread = misread_after e (r.rests.array i) (world_rests t.mirror mid.mirror r.rests t.requests i) t.misread;
       offset_unknown = spoiled_after e (world_rests t.mirror mid.mirror r.rests t.requests i) t.offset_unknown;
       log_unknown = log_unknown_after e (world_rests t.mirror mid.mirror r.rests t.requests i) t.log_unknown;
     } in

@@ -19,7 +19,7 @@ use Rattle.md_laws.proofs.Openings.OpenedFrom.{opened_read}
 
 pub record IsSoundAt (t : Moment) : Type 0 where
   pub sound : IsConsistent t.mirror
-  pub read : AreReadAsKept t.mirror t.failed_at t.spoiled
+  pub read : AreReadAsKept t.mirror t.failed_at t.misread
   pub honest : AreHonest t.mirror.disks
   pub in_flight : AreInFlight t.mirror.array t.requests
 
@@ -43,7 +43,7 @@ run_keeps [] t last r at =
     }
 run_keeps (e ∷ es) t last r at =
     let leads = rests_does t.mirror r.0 t.requests r.1 e r.2 in
-    run_keeps es (then_as t e r.0 r.1) last r.3 (record { sound = leads.sound; read = leads.read t.failed_at t.spoiled at.read; honest = r.2.does.honest; in_flight = r.2.does.in_flight })
+    run_keeps es (then_as t e r.0 r.1) last r.3 (record { sound = leads.sound; read = leads.read t.failed_at t.misread at.read; honest = r.2.does.honest; in_flight = r.2.does.in_flight })
 
 pub geometry_kept : (es : List Event) (t last : Moment) → MirrorRun t es last → geometry_of last.mirror.array ≡ geometry_of t.mirror.array
 geometry_kept [] t last r = geometry_rests t.mirror last.mirror r.rests

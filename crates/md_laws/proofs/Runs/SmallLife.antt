@@ -123,6 +123,7 @@ small_life before m mid next opened one r opens late honest =
         found = at_back mid.disks;
         again = again mid at_t.sound;
         unspoiled = λ k _ _. none_spoiled k;
+        readable = λ k _ _. none_spoiled k;
         recorded = record {
           device = 0;
           place = 0;

@@ -1,4 +1,5 @@
 use Rattle.md_laws.proofs.Openings.HalfOpened.{read_as_kept}
+use Rattle.md_laws.proofs.Runs.Misread.{reads_recorded}
 use Rattle.md_laws.proofs.Runs.MirrorContents as contents
 use Rattle.md_laws.proofs.Runs.MirrorLives as lives
 use Rattle.md_laws.proofs.Runs.Recovering.{content_along}
@@ -20,5 +21,6 @@ returns c = record {
   content_told = contents.content_told;
   keeps_content = contents.content_kept;
   read_as_kept = read_as_kept;
+  reads_recorded = reads_recorded;
   keeps_geometry = lives.keeps_geometry;
 }

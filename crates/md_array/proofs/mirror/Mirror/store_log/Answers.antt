@@ -63,7 +63,7 @@ returns g c =
     } in
     rw (← c.self.view_is) (record {
       gives = stored;
-      event = λ unshifted. log_happens c.args.k was new sound stored c.store_log.ensures.canonical unshifted;
+      event = log_happens c.args.k was new sound stored c.store_log.ensures.canonical;
       sound = logged_is_consistent c.args.k was new sound stored c.store_log.ensures.canonical;
       pending = logged_is_pending c.args.k was new sound stored c.store_log.ensures.canonical;
     })
