@@ -69,8 +69,8 @@ impl Joined {
         self.run.clear();
     }
 
-    /// Whether bytes from this sector on may be taken next: nothing waits, or they are few and lie behind what
-    /// waits.
+    /// Whether bytes from this sector on may be taken next: nothing waits, or they are few, lie behind what waits
+    /// and fit into its memory.
     pub(crate) fn is_followed(&self, sector: u64, bytes: &[u8]) -> bool
         ensures { result ≡ true → Follows self.now sector bytes.now }
     {
@@ -108,13 +108,15 @@ impl Joined {
             self.clear();
             return Ok(());
         }
+        // For the proof: a device has at most 2^54 sectors.
         let _limit = target.sectors();
         target.write(self.start, self.run.as_slice())?;
         self.clear();
         Ok(())
     }
 
-    /// Writes what waits, unless the bytes that are reported first may be taken next.
+    /// Writes what waits, unless the bytes that are reported first may be taken next. Before a report of a failed read,
+    /// and where no report is left, it goes on waiting.
     pub(crate) fn write_unless_followed<D: Device>(
         &mut self,
         collector: &Collector,
@@ -140,6 +142,7 @@ impl Joined {
         let Some(bytes) = report.bytes() else {
             return Ok(());
         };
+        // For the proof: a device has at most 2^54 sectors.
         let _limit = target.sectors();
         if self.is_followed(collector.sector_of(report.chunk()), bytes) {
             return Ok(());

@@ -40,6 +40,7 @@ fn take_one<D: Device>(
     ensures within { WritesWithin D.Device (512 * (collector.old.offset + start_of collector.old.chunks report.now.chunk))
         (bytes_of_chunk collector.old.chunks report.now.chunk) target.old target.new }
 {
+    // For the proof: a device has at most 2^54 sectors.
     let _limit = target.sectors();
     let Some(bytes) = few_bytes(report) else {
         if collector.take_ref(target, report).is_err() {
