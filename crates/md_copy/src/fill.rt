@@ -11,8 +11,8 @@ ghost use Rattle.md_copy.specs.Filling.{BreaksPass, FailsOnWrite, FillsPass};
 ghost use Rattle.md_copy.specs.RebuildSources.{AreSources, IsPlanOf};
 ghost use Rattle.md_copy.specs.Told.{IsToldOfSlots};
 
+use crate::beginning::RebuildFault;
 use crate::one_pass::copy_beside;
-use crate::table::RebuildFault;
 use md_array::Mirror;
 use md_bitmap::Marks;
 use md_cert::Plan;

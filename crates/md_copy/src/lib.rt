@@ -4,13 +4,14 @@
 //! rebuild that is done is `HasRebuilt` in `specs/Rebuilt.antt`.
 //!
 //! `pass_laws/`: the passes of a rebuild, as plans one after another.
-//! `table/`: what a rebuild would copy, and why a member is not rebuilt, before anything is copied.
+//! `beginning/`: what a rebuild would copy, and why a member is not rebuilt, before anything is copied.
 //!
 //! ```
 //! let rebuilt = rebuild(rt, alloc, &mut mirror, 1, &gate)?;
 //! ```
 #![tactic(auto)]
 
+mod beginning;
 mod enrol_filled;
 mod fill;
 pub mod laws;
@@ -26,12 +27,11 @@ mod rebuilt;
 mod sources;
 mod storing;
 mod stretches;
-mod table;
 mod until_done;
 mod whole_rebuild;
 
+pub use beginning::{RebuildFault, check_rebuild, keep_missing, marks_of, table, uncopied_chunks};
 pub use md_pass::Gate;
 pub use pass_laws::{copies_add, lists_add, passes_end, passes_go_on};
 pub use rebuilt::Rebuilt;
-pub use table::{RebuildFault, check_rebuild, keep_missing, marks_of, table, uncopied_chunks};
 pub use whole_rebuild::rebuild;

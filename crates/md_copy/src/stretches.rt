@@ -6,9 +6,9 @@ ghost use Rattle.md_copy.specs.Ready.{IsReadyToCopy};
 ghost use Rattle.md_copy.specs.Stretches.{AreLeft, FailsStretch, FailsWithin, RecordsStretch, RecordsStretches, slots_after, slots_before, stretch_rounds};
 ghost use Rattle.md_copy.specs.Told.{IsToldOfSlots};
 
+use crate::beginning::RebuildFault;
 use crate::fill::fill;
 use crate::sources::sources_of;
-use crate::table::RebuildFault;
 use md_array::{Mirror, TargetFault};
 use md_bitmap::{Chunks, Marks};
 use md_cert::{Plan, Slot, Slots};

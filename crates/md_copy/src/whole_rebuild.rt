@@ -12,13 +12,13 @@ ghost use Rattle.md_copy.specs.Rebuilt.{HasRebuilt};
 ghost use Rattle.md_copy.specs.Refused.{HasEnded};
 ghost use Rattle.md_copy.specs.Told.{IsToldOfPlans};
 
+use crate::beginning::{RebuildFault, check_rebuild};
 use crate::enrol_filled::enrol_copied;
 use crate::leave::leave;
 use crate::orphans::{Orphans, no_orphans};
 use crate::passes::copy_passes;
 use crate::readying::{lower_target, make_ready};
 use crate::rebuilt::Rebuilt;
-use crate::table::{RebuildFault, check_rebuild};
 use crate::until_done::store_until_done;
 use md_array::Mirror;
 use md_bitmap::Marks;

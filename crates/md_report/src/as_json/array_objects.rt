@@ -13,7 +13,7 @@ use crate::as_json::standing_lists::standing_lists;
 use crate::as_json::values::{
     close, next_bool, next_cleanness, next_name, next_number, next_uuid, open,
 };
-use crate::as_text::summary_report::members_in_sync;
+use crate::as_text::members_in_sync;
 use md_array::Mirror;
 use md_device::Device;
 use md_examine::{Sink, SinkFault};
