@@ -53,7 +53,7 @@ use Rattle.md_copy.proofs.Leads.RebuildLeads.{begin_holds, filled, listing_befor
 use Rattle.md_copy.proofs.Stored.TargetStates.{target_rebuilt}
 use Rattle.md_copy.proofs.Leads.UnfinishedEnrol.{prepares}
 use Rattle.md_call_laws.specs.Rebuilds.RebuildCrashes.{HasFilled, HasPassed, HasStretched, IsCrashAfter, IsCrashBefore, IsSuperWhole, CrashesAdmitting, CrashesAtCheckpoint, CrashesAtFailedCheckpoint, CrashesCopying, CrashesEnrolling, CrashesFilling, CrashesFirst, CrashesInListed, CrashesInPass, CrashesInPasses, CrashesInStretch, CrashesInStretches, CrashesListing, CrashesPassUnrecorded, CrashesReadying, CrashesRecording, CrashesStoring, CrashesUnadmitted, CrashesUnenrolled, CrashesUnrecorded}
-use Rattle.md_call_laws.proofs.RebuildLemmas.RebuildSteps.{Before, ComesUnspoiled, admission_comes, begun_comes, checkpoint_comes, fill_comes, filled_comes, listed_comes, lowered_comes, noted_comes, noting_comes, passes_come, recorded_comes, recorded_unspoils, so_last, stored_comes, stores_come, stretch_comes, stretches_come, then_unspoiled, until_last, whole_stores}
+use Rattle.md_call_laws.proofs.RebuildLemmas.RebuildSteps.{Before, ComesUnspoiled, admission_comes, begun_comes, checkpoint_comes, fill_comes, filled_comes, listed_comes, lowered_comes, noted_comes, noting_comes, passes_come, recorded_comes, recorded_unspoils, so_last, stored_comes, stores_come, stretch_comes, stretches_come, then_unspoiled, until_last, whole_stores, whole_stores_lists}
 use Rattle.md_call_laws.proofs.RebuildLemmas.Steady.{Comes, IsSteadyAt, comes_then, end, end_steady, steady_at}
 
 -- ---- who is in sync
