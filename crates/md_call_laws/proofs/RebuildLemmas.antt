@@ -1,4 +1,5 @@
 pub mod HeldOnDisks
+pub mod Readable
 pub mod Steady
 pub mod RebuildSteps
 pub mod RebuiltHolds

@@ -11,7 +11,7 @@ use Rattle.md_state.specs.Requests.{AreInFlight}
 use Rattle.md_state.specs.View.{Disk, MirrorView, geometry_of}
 use Rattle.md_array.specs.Consistency.{IsConsistent}
 use Rattle.md_array.specs.Steps.Enrol.{Enrols, MayEnrolSectors}
-use Rattle.md_array.specs.Steps.EnrolEvents.{IsHeldBy, Prepares, enrol_event, prepared}
+use Rattle.md_array.specs.Steps.EnrolEvents.{DidEnrol, IsHeldBy, Prepares, enrol_event, prepared}
 use Rattle.md_array.specs.Events.{Does}
 use Rattle.md_array.specs.Worlds.{AreHonest, lists_of, stored_of, world_of}
 use Rattle.md_array.proofs.Rebuilding.EnrolEvent.{does_enrol}
@@ -21,6 +21,8 @@ use Rattle.md_array.proofs.Rebuilding.PreparedEvent.{prepare_happens}
 use Rattle.md_array.proofs.StepLemmas.OneMember.{stored_there}
 use Rattle.md_laws.specs.Runs.{MirrorRun, MirrorRunWith, Moment, RestsThenDoes, then_as}
 use Rattle.md_laws.proofs.Runs.Rests.{at_once, at_rest}
+use Rattle.md_call_laws.specs.Rebuilds.RebuildRuns.{StaysReadable}
+use Rattle.md_call_laws.proofs.RebuildLemmas.Readable.{readable_on, readable_then}
 
 module _ (target : ℕ) (copied lost : ℕ → Bool) (old new : MirrorView) (c : IsConsistent old) (sound : IsConsistent new) (r : Enrols target copied lost old new) (may : MayEnrolSectors target copied lost old)
     (honest : AreHonest old.disks) (content : Content) (held : IsHeldBy target (lists_of old.array r.member) content (prepared r)) (t : Moment) (there : t.mirror ≡ old)
@@ -87,3 +89,15 @@ module _ (target : ℕ) (copied lost : ℕ → Bool) (old new : MirrorView) (c :
 
   pub enrolled_run_with : MirrorRunWith t content (first ∷ second ∷ []) at_end content
   enrolled_run_with = (mid, t.requests, content, rests_first, refl, (new, t.requests, content, at_once mid new t.requests t.requests second does_second, becomes, (at_rest at_end, refl)))
+
+  -- who is readable stays so
+  did_first : Prepares target t.mirror mid
+  did_first = subst (λ (x : MirrorView). Prepares target x mid) (sym there) (subst (Prepares target old) mid_is (prepares target copied lost old new c r may))
+
+  did_second : DidEnrol second mid new
+  did_second = record { index = target; copied = copied; lost = lost; old = old; enrols = r; prepared = sym mid_is; event = refl }
+
+  pub enrolled_readable : StaysReadable t at_end
+  enrolled_readable =
+      let next = then_as t first mid t.requests in
+      readable_on t next at_end (readable_then t first tt mid t.requests (refl, did_first)) (readable_then next second tt new t.requests (refl, did_second))

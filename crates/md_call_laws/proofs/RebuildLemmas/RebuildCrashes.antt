@@ -53,6 +53,8 @@ use Rattle.md_copy.proofs.Leads.RebuildLeads.{begin_holds, filled, listing_befor
 use Rattle.md_copy.proofs.Stored.TargetStates.{target_rebuilt}
 use Rattle.md_copy.proofs.Leads.UnfinishedEnrol.{prepares}
 use Rattle.md_call_laws.specs.Rebuilds.RebuildCrashes.{HasFilled, HasPassed, HasStretched, IsCrashAfter, IsCrashBefore, IsSuperWhole, CrashesAdmitting, CrashesAtCheckpoint, CrashesAtFailedCheckpoint, CrashesCopying, CrashesEnrolling, CrashesFilling, CrashesFirst, CrashesInListed, CrashesInPass, CrashesInPasses, CrashesInStretch, CrashesInStretches, CrashesListing, CrashesPassUnrecorded, CrashesReadying, CrashesRecording, CrashesStoring, CrashesUnadmitted, CrashesUnenrolled, CrashesUnrecorded}
+use Rattle.md_call_laws.specs.Rebuilds.RebuildRuns.{StaysReadable}
+use Rattle.md_call_laws.proofs.RebuildLemmas.Readable.{LeavesShifts, on_members_leave, readable_on, readable_then}
 use Rattle.md_call_laws.proofs.RebuildLemmas.RebuildSteps.{Before, ComesUnspoiled, admission_comes, begun_comes, checkpoint_comes, fill_comes, filled_comes, listed_comes, lowered_comes, noted_comes, noting_comes, passes_come, recorded_comes, recorded_unspoils, so_last, stored_comes, stores_come, stretch_comes, stretches_come, then_unspoiled, until_last, whole_stores, whole_stores_lists}
 use Rattle.md_call_laws.proofs.RebuildLemmas.Steady.{Comes, IsSteadyAt, comes_then, end, end_steady, steady_at}
 
@@ -99,10 +101,10 @@ keeps_event e previous t mid between of order did happens i y on =
     let x = stays.each i y on in
     (x.0, x.1)
 
-crashes_here : (Of : Event → Type 0) (e : Event) (of : Of e) (t : Moment) (left : List Disk) → ((so : GoesSo e t.mirror t.requests left) → StaysOut t.mirror.array so.mid.array)
+crashes_here : (Of : Event → Type 0) (e : Event) (of : Of e) → LeavesShifts e → (t : Moment) (left : List Disk) → ((so : GoesSo e t.mirror t.requests left) → StaysOut t.mirror.array so.mid.array)
     → IsLeftByCrash t left ⊎ GoesSo e t.mirror t.requests left → CrashesKeeping Of t left
-crashes_here Of e of t left keeps (inl is_left) = record { after = record { events = []; steps = tt; at = t; run = at_rest t; is_left = is_left }; keeps = λ i y on. (y, on) }
-crashes_here Of e of t left keeps (inr so) =
+crashes_here Of e of leaves t left keeps (inl is_left) = record { after = record { events = []; steps = tt; at = t; run = at_rest t; is_left = is_left; readable = λ k was. was }; keeps = λ i y on. (y, on) }
+crashes_here Of e of leaves t left keeps (inr so) =
     let next = then_as t e so.mid so.between in
     record {
       after = record {
@@ -111,11 +113,13 @@ crashes_here Of e of t left keeps (inr so) =
         at = next;
         run = (so.mid, so.between, at_once t.mirror so.mid t.requests so.between e so.does, at_rest next);
         is_left = inl so.contents;
+        readable = readable_then t e leaves so.mid so.between so.did;
       };
       keeps = keeps so;
     }
 
-module _ (Of : Event → Type 0) (e : Event) (of : Of e) (t : Moment) (mid : MirrorView) (between : Requests) (does : Does t.mirror t.requests e mid between) (keeps : StaysOut t.mirror.array mid.array) where
+module _ (Of : Event → Type 0) (e : Event) (of : Of e) (t : Moment) (mid : MirrorView) (between : Requests) (does : Does t.mirror t.requests e mid between) (keeps : StaysOut t.mirror.array mid.array)
+    (readable : StaysReadable t (then_as t e mid between)) where
   abbrev next : Moment
   next = then_as t e mid between
 
@@ -123,7 +127,7 @@ module _ (Of : Event → Type 0) (e : Event) (of : Of e) (t : Moment) (mid : Mir
   stops_later left rest =
       let x = rest.after in
       record {
-        after = record { events = e ∷ x.events; steps = (of, x.steps); at = x.at; run = (mid, between, at_once t.mirror mid t.requests between e does, x.run); is_left = x.is_left };
+        after = record { events = e ∷ x.events; steps = (of, x.steps); at = x.at; run = (mid, between, at_once t.mirror mid t.requests between e does, x.run); is_left = x.is_left; readable = readable_on t next x.at readable x.readable };
         keeps = out_then t.mirror.array mid.array x.at.mirror.array keeps rest.keeps;
       }
 
@@ -131,11 +135,12 @@ pub crashes_in : (Of : Event → Type 0) → ((e : Event) → Of e → IsOnMembe
     → AllOf Of es → IsSoundAt t → AllLeftWhole es previous t.mirror t.requests Then turn → (left : List Disk) → CrashesIn es previous t.mirror t.requests Then turn left → CrashesKeeping Of t left
 crashes_in Of is [] previous t Then turn of at whole left stop = absurd stop
 crashes_in Of is (e ∷ es) previous t Then turn of at whole left (inl here) =
-    crashes_here Of e of.0 t left (λ so. keeps_event e previous t so.mid so.between (is e of.0) turn.2 so.did (λ _ _. so.does))
+    crashes_here Of e of.0 (on_members_leave e (is e of.0)) t left (λ so. keeps_event e previous t so.mid so.between (is e of.0) turn.2 so.did (λ _ _. so.does))
     (within_event previous t at turn.0 turn.1 left here.0 e turn.2 turn.3 turn.4 (no_data e t.requests (is e of.0)) here.1)
 crashes_in Of is (e ∷ es) previous t Then turn of at whole left (inr later) =
     let does = turn.4 at.honest whole.0 in
-    stops_later Of e of.0 t turn.0 turn.1 does (keeps_event e previous t turn.0 turn.1 (is e of.0) turn.2 turn.3 turn.4) left
+    stops_later Of e of.0 t turn.0 turn.1 does (keeps_event e previous t turn.0 turn.1 (is e of.0) turn.2 turn.3 turn.4)
+    (readable_then t e (on_members_leave e (is e of.0)) turn.0 turn.1 turn.3) left
     (crashes_in Of is es (Some e) (then_as t e turn.0 turn.1) Then turn.5 of.1 (sound_then t e turn.0 turn.1 at does) whole.1 left later)
 
 pub on_members : (e : Event) → IsStoring e → IsOnMembers e
@@ -170,6 +175,7 @@ keeping_crash Of target before t out left x = record {
     at = x.after.at;
     run = x.after.run;
     is_left = x.after.is_left;
+    readable = x.after.readable;
   };
   out = λ n there. by_test (is_in_sync n.state)
       (λ on. (let was = x.keeps target n (record { member = there; in_sync = on }) in absurd (true≢false (sym was.1.in_sync ∙ out was.0 was.1.member))))
@@ -208,13 +214,14 @@ later_crash target t {mid} c left s = record {
     at = s.after.at;
     run = run_then c.events s.after.events t (record c.past { mirror = mid; requests = t.requests }) s.after.at c.run s.after.run;
     is_left = s.after.is_left;
+    readable = readable_on t (record c.past { mirror = mid; requests = t.requests }) s.after.at c.readable s.after.readable;
   };
   out = s.out;
 }
 
 -- what is left is what stands at a moment or within a call from there
 at_crash : (target : ℕ) (t : Moment) → IsOut target t.mirror → (left : List Disk) → IsLeftByCrash t left → IsCrashBefore target t left
-at_crash target t out left is_left = record { after = record { events = []; steps = tt; at = t; run = at_rest t; is_left = is_left }; out = out }
+at_crash target t out left is_left = record { after = record { events = []; steps = tt; at = t; run = at_rest t; is_left = is_left; readable = λ k was. was }; out = out }
 
 same_reads : (x y : List ℕ) → x ≡ y → ReadsAs x y
 same_reads x y is = subst (ReadsAs x) is (record { decoded = refl; map = refl; read = λ v one sound. (one, sound) })

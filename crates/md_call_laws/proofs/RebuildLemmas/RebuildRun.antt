@@ -22,7 +22,6 @@ use Rattle.md_laws.specs.Left.{contents_of}
 use Rattle.md_laws.specs.Lives.{MirrorLifeWith}
 use Rattle.md_laws.specs.Runs.{HasRested, IsStart, MirrorRun, MirrorRunWith, Moment, log_unknown_after, opened_as, then_as}
 use Rattle.md_laws.specs.CrashesWithin.{MayAllBeLeft}
-use Rattle.md_laws.proofs.Runs.CallRuns.{call_is_run}
 use Rattle.md_laws.proofs.Runs.ContentRuns.{without_content}
 use Rattle.md_laws.proofs.Runs.MirrorContents.{life_held_at}
 use Rattle.md_laws.proofs.Runs.MirrorRuns.{rests_run}
@@ -35,10 +34,11 @@ use Rattle.md_copy.specs.RebuildEvents.{IsBeforeEnrol, IsOfRebuild}
 use Rattle.md_copy.specs.Rebuilding.{Rebuilds}
 use Rattle.md_copy.proofs.Passing.PassesTold.{filled_ready}
 use Rattle.md_copy.proofs.Leads.RebuildLeads.{before_of, begin_holds, storing_before}
-use Rattle.md_call_laws.specs.Rebuilds.RebuildRuns.{RebuildIsARun, RebuildRunsOn, RunsTo}
+use Rattle.md_call_laws.specs.Rebuilds.RebuildRuns.{RebuildIsARun, RebuildRunsOn, RunsTo, StaysReadable}
 use Rattle.md_call_laws.specs.Rebuilds.RebuiltInLife.{HeldWhatItHad}
 use Rattle.md_call_laws.specs.Rebuilds.RebuildCrashes.{HasFilled, IsCrashEnrolled, CrashesAnyhow, CrashesEnrolled, CrashesInRebuild, CrashesStoringRecords}
-use Rattle.md_call_laws.proofs.RebuildLemmas.EnrolledRun.{at_end, enrolled_run_with}
+use Rattle.md_call_laws.proofs.RebuildLemmas.EnrolledRun.{at_end, enrolled_readable, enrolled_run_with}
+use Rattle.md_call_laws.proofs.RebuildLemmas.Readable.{LeavesShifts, before_leaves, readable_on, run_readable}
 use Rattle.md_call_laws.proofs.RebuildLemmas.HeldAtEnrol.{is_held}
 use Rattle.md_call_laws.proofs.RebuildLemmas.HeldOnDisks.{has_content}
 use Rattle.md_call_laws.proofs.RebuildLemmas.SpoiledRebuilds.{begun_anyhow, enrolling_anyhow, made_anyhow}
@@ -124,8 +124,13 @@ module _ (target : ℕ) (kept orphans : Bitmap) (t : Moment) (at : IsSteadyAt t)
   run_alone : MirrorRun t events last
   run_alone = without_content events t content last content run_with
 
+  readable : StaysReadable t last
+  readable =
+      readable_on t mid last until.readable
+      (enrolled_readable target (in_chunks filled.array.chunks kept) (in_chunks filled.array.chunks orphans) filled new h.fills.sound consistent r (may_by_chunks target kept orphans filled h.fills.sound h.fills.has.may) mid_steady.sound.honest content held mid refl mid_steady.sound.in_flight)
+
   pub rebuild_run : RunsTo (IsOfRebuild target) t content new
-  rebuild_run = record { events = events; steps = steps; at = last; run = run_with; there = refl }
+  rebuild_run = record { events = events; steps = steps; at = last; run = run_with; there = refl; readable = readable }
 
   -- ---- a crash right after it
   pub enrolled_crash : (left : List Disk) → MayAllBeLeft filled.disks new.disks (contents_of left) → AtDevice target new.disks left (λ d e. block_on e.content ≡ block_on d.content) → IsCrashEnrolled target t content left
@@ -150,6 +155,7 @@ module _ (target : ℕ) (kept orphans : Bitmap) (t : Moment) (at : IsSteadyAt t)
         within = within;
         super = super;
       });
+      readable = readable;
     };
     content_stays = run_with;
   }
@@ -174,9 +180,9 @@ module _ (target : ℕ) (kept orphans : Bitmap) (t : Moment) (at : IsSteadyAt t)
 
     pub settled_run : AllLeftWhole g.events None new t.requests Then turn → RunsTo (IsOfRebuild target) t content records_stored
     settled_run whole =
-        let x = call_is_run g.events None last records_stored t.requests turn then_steady.sound.honest whole in
         let others = all_such IsStoring (IsBeforeEnrol target) (storing_before target) g.events g.steps in
-        record { events = events ++ g.events; steps = after_them g.events others; at = x.0; run = with_them g.events others x.0 x.1; there = x.2.0 }
+        let x = run_readable g.events None last Then turn (all_such (IsBeforeEnrol target) LeavesShifts (before_leaves target) g.events others) then_steady.sound.honest whole in
+        record { events = events ++ g.events; steps = after_them g.events others; at = x.0; run = with_them g.events others x.0 x.1; there = x.2.0; readable = readable_on t last x.0 readable x.3 }
 
     pub settling_crash : AllLeftWhole g.events None new t.requests Then turn → (left : List Disk) → CrashesIn g.events None new t.requests Then turn left → IsCrashEnrolled target t content left
     settling_crash whole left stop =
@@ -190,6 +196,7 @@ module _ (target : ℕ) (kept orphans : Bitmap) (t : Moment) (at : IsSteadyAt t)
             at = x.at;
             run = without_content (events ++ x.events) t content x.at content all;
             is_left = x.is_left;
+            readable = readable_on t last x.at readable x.readable;
           };
           content_stays = all;
         }

@@ -17,7 +17,7 @@ use Rattle.md_array.specs.InTurn.{AllLeftWhole, AllOf, InTurn, LeftWhole, Reques
 use Rattle.md_array.proofs.StepLemmas.Turns.{all_on, all_such}
 use Rattle.md_laws.specs.ReadInTurn.{IsNoFailedRecord}
 use Rattle.md_laws.specs.Runs.{MirrorRun, Moment, then_as}
-use Rattle.md_laws.proofs.Runs.CallRuns.{admit_is_a_call, call_is_run, checkpoint_is_a_call, fill_is_a_call}
+use Rattle.md_laws.proofs.Runs.CallRuns.{admit_is_a_call, checkpoint_is_a_call, fill_is_a_call}
 use Rattle.md_laws.proofs.Runs.Moments.{run_then}
 use Rattle.md_metadata.specs.Going.{GoesOn, only_others}
 use Rattle.md_metadata.specs.Storing.{IsNoFailure, IsStoring}
@@ -31,6 +31,8 @@ use Rattle.md_copy.specs.Storing.{StoresFirst}
 use Rattle.md_copy.specs.Stretches.{AreRecorded, RecordsStretch, slots_after, slots_before}
 use Rattle.md_copy.proofs.Passing.PassesTold.{HoldsSoFar, chain_holds, holds_alone, listed_holds, one_holds}
 use Rattle.md_copy.proofs.Leads.RebuildLeads.{filled, listing_before, lowering_events, lowering_leads, noting_before, storing_before}
+use Rattle.md_call_laws.specs.Rebuilds.RebuildRuns.{StaysReadable}
+use Rattle.md_call_laws.proofs.RebuildLemmas.Readable.{readable_on, run_readable}
 use Rattle.md_call_laws.proofs.RebuildLemmas.Steady.{Comes, IsSteadyAt, comes_by, comes_same, comes_then, end, end_steady, holds_some}
 
 abbrev pub Before : ℕ → Event → Type 0
@@ -87,7 +89,7 @@ whole_stores t new goes unfailing in_flight =
 
 pub stores_come : (target : ℕ) (t : Moment) → IsSteadyAt t → (new : MirrorView) (goes : GoesOn only_others only_others IsStoring t.mirror new) → AllOf IsNoFailure goes.events → Comes (Before target) t new
 stores_come target t at new goes unfailing =
-    comes_by (Before target) t new goes.events (all_such IsStoring (Before target) (storing_before target) goes.events goes.steps) (goes.leads None t.requests at.sound.in_flight) at
+    comes_by target t new goes.events (all_such IsStoring (Before target) (storing_before target) goes.events goes.steps) (goes.leads None t.requests at.sound.in_flight) at
     (whole_stores t new goes unfailing at.sound.in_flight)
 
 pub stored_comes : (target : ℕ) (t : Moment) → IsSteadyAt t → (new : MirrorView) → StoresFirst t.mirror new → Comes (Before target) t new
@@ -95,7 +97,7 @@ stored_comes target t at new first = stores_come target t at new first.stores.go
 
 admits_comes : (target : ℕ) (t : Moment) → IsSteadyAt t → (new : MirrorView) (r : Admits target t.mirror new) → is_spare r.may.member.state ≡ true → Comes (Before target) t new
 admits_comes target t at new r spare =
-    comes_by (Before target) t new (admit_event r ∷ []) (refl, tt) (admit_is_a_call target t.mirror new at.sound.sound r spare None t.requests at.sound.in_flight) at (tt, tt)
+    comes_by target t new (admit_event r ∷ []) (refl, tt) (admit_is_a_call target t.mirror new at.sound.sound r spare None t.requests at.sound.in_flight) at (tt, tt)
 
 pub admission_comes : (target : ℕ) (t : Moment) → IsSteadyAt t → (new : MirrorView) → AdmitsAfter target t.mirror new → Comes (Before target) t new
 admission_comes target t at new h =
@@ -113,7 +115,7 @@ ready_comes target t at m ready (inr h) =
 pub lowered_comes : (target : ℕ) (none : Bitmap) (t : Moment) → IsSteadyAt t → (mid : MirrorView) → LowersTarget target none t.mirror mid → t.mirror.array.halted ≡ false → Comes (Before target) t mid
 lowered_comes target none t at mid (inl to) running =
     let leads = lowering_leads target none t.mirror mid at.sound.sound running (inl to) in
-    comes_by (Before target) t mid (lowering_events target none t.mirror mid (inl to)) leads.steps (leads.leads None t.requests at.sound.in_flight) at (tt, tt)
+    comes_by target t mid (lowering_events target none t.mirror mid (inl to)) leads.steps (leads.leads None t.requests at.sound.in_flight) at (tt, tt)
 lowered_comes target none t at mid (inr same) running = comes_same (Before target) t mid same.0
 
 pub begun_comes : (target : ℕ) (t : Moment) → IsSteadyAt t → (ready : MirrorView) (none : Bitmap) → BeginsRebuild target t.mirror ready none → Comes (Before target) t ready
@@ -124,7 +126,7 @@ begun_comes target t at ready none b =
 -- ---- a pass
 pub fill_comes : (target : ℕ) (t : Moment) → IsSteadyAt t → (new : MirrorView) → Fills target t.mirror new → Comes (Before target) t new
 fill_comes target t at new f =
-    comes_by (Before target) t new (Event.Fill target ∷ []) (refl, tt) (fill_is_a_call target t.mirror new at.sound.sound f None t.requests at.sound.in_flight) at (tt, tt)
+    comes_by target t new (Event.Fill target ∷ []) (refl, tt) (fill_is_a_call target t.mirror new at.sound.sound f None t.requests at.sound.in_flight) at (tt, tt)
 
 -- the target is not spoiled then: an opening reads what is kept of it
 pub record ComesUnspoiled (target : ℕ) (t : Moment) (new : MirrorView) : Type 0 where
@@ -140,7 +142,7 @@ stored_super target sure listed t last run =
 
 pub checkpoint_unspoils : (target : ℕ) (copied : Bitmap) (t : Moment) → IsSteadyAt t → (new : MirrorView) → Checkpoints target copied t.mirror new → ComesUnspoiled target t new
 checkpoint_unspoils target copied t at new r =
-    let x = call_is_run (checkpoint_event r ∷ []) None t new t.requests (checkpoint_is_a_call target copied t.mirror new at.sound.sound r None t.requests at.sound.in_flight) at.sound.honest
+    let x = run_readable (checkpoint_event r ∷ []) None t (λ m q. (m ≡ new) × (q ≡ t.requests)) (checkpoint_is_a_call target copied t.mirror new at.sound.sound r None t.requests at.sound.in_flight) (tt, tt) at.sound.honest
     (holds_some t at r.may.idle r.may.resynced, tt) in
     record {
       comes = record {
@@ -148,6 +150,7 @@ checkpoint_unspoils target copied t at new r =
         steps = (refl, tt);
         past = x.0;
         run = subst (MirrorRun t (checkpoint_event r ∷ [])) (λ i. record x.0 { mirror = x.2.0 i; requests = x.2.1 i }) x.1;
+        readable = subst (StaysReadable t) (λ i. record x.0 { mirror = x.2.0 i; requests = x.2.1 i }) x.3;
       };
       unspoiled = stored_super target r.sure (listed_on new target) t x.0 x.1;
     }
@@ -162,6 +165,7 @@ then_unspoiled target t {mid} {new} c d = record {
     steps = all_on (Before target) c.events d.comes.events c.steps d.comes.steps;
     past = d.comes.past;
     run = run_then c.events d.comes.events t (record c.past { mirror = mid; requests = t.requests }) (record d.comes.past { mirror = new; requests = t.requests }) c.run d.comes.run;
+    readable = readable_on t (record c.past { mirror = mid; requests = t.requests }) (record d.comes.past { mirror = new; requests = t.requests }) c.readable d.comes.readable;
   };
   unspoiled = d.unspoiled;
 }
@@ -209,13 +213,13 @@ pub noted_comes : (target : ℕ) (failed : List Slot) (t : Moment) → IsSteadyA
 noted_comes target failed t at new h =
     let goes = h.goes in
     let leads = goes.leads None t.requests at.sound.in_flight in
-    comes_by (Before target) t new goes.events (all_such IsNoting (Before target) (noting_before target) goes.events goes.steps) leads at
+    comes_by target t new goes.events (all_such IsNoting (Before target) (noting_before target) goes.events goes.steps) leads at
     (whole_of goes.events None t.mirror t.requests (λ m r. (m ≡ new) × (r ≡ t.requests)) leads (all_such IsNoting IsNoFailedRecord noting_records goes.events goes.steps))
 
 pub lists_comes : (target : ℕ) (failed : List Slot) (t : Moment) → IsSteadyAt t → (new : MirrorView) → StoresLists failed t.mirror new → Comes (Before target) t new
 lists_comes target failed t at new h =
     let goes = h.goes in
-    comes_by (Before target) t new goes.events (all_such IsStoringList (Before target) (listing_before target) goes.events goes.steps) (goes.leads None t.requests at.sound.in_flight) at
+    comes_by target t new goes.events (all_such IsStoringList (Before target) (listing_before target) goes.events goes.steps) (goes.leads None t.requests at.sound.in_flight) at
     (whole_stores_lists failed t.mirror new h t.requests at.sound.in_flight)
 
 -- ---- passes

@@ -117,13 +117,13 @@ lost_comes target t at last h =
     let d = comes_then c (recorded_comes target h.chunks h.pass h.copied h.after (end c) (end_steady c at) (passed_holds target h.chunks h.copied t at h.now h.passed) h.recorded h.records) in
     let e = comes_then d (noted_comes target h.pass.failed (end d) (end_steady d at) h.noted h.notes) in
     comes_then e
-    (comes_by (Before target) (end e) last h.goes.events (all_such IsStoringList (Before target) (listing_before target) h.goes.events h.goes.steps) (h.goes.leads None t.requests h.in_flight) (end_steady e at) h.whole)
+    (comes_by target (end e) last h.goes.events (all_such IsStoringList (Before target) (listing_before target) h.goes.events h.goes.steps) (h.goes.leads None t.requests h.in_flight) (end_steady e at) h.whole)
 
 -- ---- in lives
 pub refused_is_a_run : RefusedIsARun
 refused_is_a_run before m a start holds es rest final t b life target copied stopped h =
     let c = (stopped_so target t (steady_with before m a start holds es rest final t b life) copied stopped h).comes in
-    record { events = c.events; steps = c.steps; at = end c; run = stays_along target c.events t b (end c) c.steps c.run; there = refl }
+    record { events = c.events; steps = c.steps; at = end c; run = stays_along target c.events t b (end c) c.steps c.run; there = refl; readable = c.readable }
 
 pub crashes_leaving : CrashesLeaving
 crashes_leaving before m start es rest final t life target copied stopped new h r left within super =
@@ -146,7 +146,7 @@ crashes_leaving_anyhow before m start es rest final t life target copied stopped
 pub lost_is_a_run : LostIsARun
 lost_is_a_run before m a start holds es rest final t b life target last h =
     let c = lost_comes target t (steady_with before m a start holds es rest final t b life) last h in
-    record { events = c.events; steps = c.steps; at = end c; run = stays_along target c.events t b (end c) c.steps c.run; there = refl }
+    record { events = c.events; steps = c.steps; at = end c; run = stays_along target c.events t b (end c) c.steps c.run; there = refl; readable = c.readable }
 
 pub crashes_leaving_lost : CrashesLeavingLost
 crashes_leaving_lost before m start es rest final t life target nothing last new h r left within super =

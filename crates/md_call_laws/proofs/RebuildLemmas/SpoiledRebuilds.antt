@@ -43,6 +43,7 @@ use Rattle.md_copy.proofs.Leads.RefusedLeads.{unfinished_of}
 use Rattle.md_copy.proofs.Stored.StoredFirst.{rebuilt_still}
 use Rattle.md_copy.proofs.Stored.TargetStates.{target_rebuilt}
 use Rattle.md_call_laws.specs.Rebuilds.RebuildCrashes.{AnySuper, HasFilled, IsCrashBefore, IsCrashUnfinished, CrashesAdmittingAnyhow, CrashesAtCheckpointAnyhow, CrashesCopying, CrashesEnrollingAnyhow, CrashesInListed, CrashesInPass, CrashesInPasses, CrashesInStretch, CrashesInStretches, CrashesReadying, CrashesRecordingAnyhow, CrashesTelling, CrashesUnadmittedAnyhow, CrashesUnenrolledAnyhow}
+use Rattle.md_call_laws.proofs.RebuildLemmas.Readable.{readable_on, readable_then}
 use Rattle.md_call_laws.proofs.RebuildLemmas.RebuildSteps.{Before, filled_comes, listed_comes, so_last, stretch_comes, until_last}
 use Rattle.md_call_laws.proofs.RebuildLemmas.Steady.{Comes, IsSteadyAt, end, end_steady, steady_at}
 use Rattle.md_call_laws.proofs.RebuildLemmas.RebuildCrashes.{after_crash, all_filled, before_admission, before_failure, before_crash, begun, first_done, filling_crash, listing_crash, lowered_done, recovers_filled, recovers_made, so_begun, until_made}
@@ -56,6 +57,7 @@ unfinished target t left s = record {
     at = s.after.at;
     run = s.after.run;
     is_left = s.after.is_left;
+    readable = s.after.readable;
   };
   out = s.out;
 }
@@ -69,6 +71,7 @@ later_anyhow target t {mid} c left s = record {
     at = s.after.at;
     run = run_then c.events s.after.events t (record c.past { mirror = mid; requests = t.requests }) s.after.at c.run s.after.run;
     is_left = s.after.is_left;
+    readable = readable_on t (record c.past { mirror = mid; requests = t.requests }) s.after.at c.readable s.after.readable;
   };
   out = s.out;
 }
@@ -93,7 +96,7 @@ module _ (target : ℕ) (t : Moment) (at : IsSteadyAt t) where
 
     pub spoiled_crash : IsCrashUnfinished target t left
     spoiled_crash = record {
-      after = record { events = spoiled ∷ []; steps = (refl, tt); at = last; run = spoiled_run; is_left = inl (sym s.contents) };
+      after = record { events = spoiled ∷ []; steps = (refl, tt); at = last; run = spoiled_run; is_left = inl (sym s.contents); readable = readable_then t spoiled tt s.other t.requests (refl, s.spoils) };
       out = λ m there.
           let same : m ≡ s.spoils.member = same_Some m s.spoils.member (sym there ∙ ap (λ (a : ArrayView). slice_get a.members target) s.spoils.array ∙ s.spoils.at) in
           ap (λ (x : MemberView). is_in_sync x.state) same ∙ rebuilt_out s.spoils.member.state s.spoils.rebuilt;
@@ -243,6 +246,7 @@ module _ (target : ℕ) (kept orphans : Bitmap) (t : Moment) (at : IsSteadyAt t)
       steps = all_on (Before target) done.events (Event.Prepare target ∷ []) done.steps (refl, tt);
       past = prepared;
       run = run_then done.events (Event.Prepare target ∷ []) t (end done) prepared done.run run_prepared;
+      readable = readable_on t (end done) prepared done.readable (readable_then (end done) (Event.Prepare target) tt mid t.requests (refl, p));
     }
 
     out_prepared : (m : MemberView) → IsMember mid.array target m → is_in_sync m.state ≡ false
@@ -253,7 +257,7 @@ module _ (target : ℕ) (kept orphans : Bitmap) (t : Moment) (at : IsSteadyAt t)
     -- a crash after that, or after the target was spoiled then
     prepared_stop : (left : List Disk) → (contents_of mid.disks ≡ contents_of left) ⊎ IsLeftSpoiled target mid (contents_of left) → IsCrashUnfinished target t left
     prepared_stop left (inl same) = unfinished target t left (record {
-      after = record { events = comes_prepared.events; steps = comes_prepared.steps; at = end comes_prepared; run = comes_prepared.run; is_left = inl (sym same) };
+      after = record { events = comes_prepared.events; steps = comes_prepared.steps; at = end comes_prepared; run = comes_prepared.run; is_left = inl (sym same); readable = comes_prepared.readable };
       out = out_prepared;
     })
     prepared_stop left (inr spoiled) = later_anyhow target t comes_prepared left (spoiled_crash target (end comes_prepared) (end_steady comes_prepared at) left spoiled)

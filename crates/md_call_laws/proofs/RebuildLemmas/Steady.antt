@@ -1,5 +1,5 @@
 -- A moment of a mirror's life, and moments to which events lead from there.
-use Rattle.std.proofs.Common.{◌≡◌, true, List, [], ◌++◌, None, refl, sym, subst}
+use Rattle.std.proofs.Common.{◌≡◌, ℕ, true, List, [], ◌++◌, None, refl, sym, subst}
 use Rattle.md_model.specs.Content.{Content, Holds}
 use Rattle.md_model.specs.Devices.{Super}
 use Rattle.md_model.specs.Events.{Event}
@@ -14,13 +14,15 @@ use Rattle.md_array.specs.Worlds.{none_in_flight, super_of, world_of}
 use Rattle.md_array.proofs.StepLemmas.Turns.{all_on, all_such}
 use Rattle.md_laws.specs.Lives.{MirrorLife, MirrorLifeWith}
 use Rattle.md_laws.specs.Runs.{IsStart, MirrorRun, Moment, history_of}
-use Rattle.md_laws.proofs.Runs.CallRuns.{call_is_run}
 use Rattle.md_laws.proofs.Runs.MirrorContents.{IsHeldAt, life_held_at, starts_small}
 use Rattle.md_laws.proofs.Runs.MirrorLives.{keeps_geometry, life_kept}
 use Rattle.md_laws.proofs.Runs.MirrorRuns.{model_run}
 use Rattle.md_laws.proofs.Runs.Moments.{IsSoundAt, geometry_kept, life_keeps, run_keeps, run_then, sound_when_opened}
 use Rattle.md_laws.proofs.Runs.Rests.{at_rest}
+use Rattle.md_copy.specs.RebuildEvents.{IsBeforeEnrol}
+use Rattle.md_call_laws.specs.Rebuilds.RebuildRuns.{StaysReadable}
 use Rattle.md_call_laws.proofs.RebuildLemmas.HeldOnDisks.{some_content}
+use Rattle.md_call_laws.proofs.RebuildLemmas.Readable.{before_leaves, readable_on, run_readable, LeavesShifts}
 
 -- ---- at a moment of a life
 pub record IsSteadyAt (t : Moment) : Type 0 where
@@ -75,6 +77,7 @@ pub record Comes (Of : Event → Type 0) (t : Moment) (new : MirrorView) : Type 
   pub steps : AllOf Of events
   pub past : Moment
   pub run : MirrorRun t events (record past { mirror = new; requests = t.requests })
+  pub readable : StaysReadable t (record past { mirror = new; requests = t.requests })
 
 -- the moment at its end
 abbrev pub end : {Of : Event → Type 0} {t : Moment} {new : MirrorView} → Comes Of t new → Moment
@@ -89,21 +92,28 @@ comes_then {Of} {t} {mid} {new} c d = record {
   steps = all_on Of c.events d.events c.steps d.steps;
   past = d.past;
   run = run_then c.events d.events t (record c.past { mirror = mid; requests = t.requests }) (record d.past { mirror = new; requests = t.requests }) c.run d.run;
+  readable = readable_on t (record c.past { mirror = mid; requests = t.requests }) (record d.past { mirror = new; requests = t.requests }) c.readable d.readable;
 }
 
 pub comes_none : (Of : Event → Type 0) (t : Moment) → Comes Of t t.mirror
-comes_none Of t = record { events = []; steps = tt; past = t; run = at_rest t }
+comes_none Of t = record { events = []; steps = tt; past = t; run = at_rest t; readable = λ k was. was }
 
 pub comes_same : (Of : Event → Type 0) (t : Moment) (new : MirrorView) → new ≡ t.mirror → Comes Of t new
 comes_same Of t new same = subst (Comes Of t) (sym same) (comes_none Of t)
 
 -- by the events of a call
-pub comes_by : (Of : Event → Type 0) (t : Moment) (new : MirrorView) (es : List Event) → AllOf Of es → (leads : Leads None t.mirror t.requests es new t.requests) → IsSteadyAt t
-    → AllLeftWhole es None t.mirror t.requests (λ m r. (m ≡ new) × (r ≡ t.requests)) leads → Comes Of t new
-comes_by Of t new es steps leads at whole =
-    let r = call_is_run es None t new t.requests leads at.sound.honest whole in
-    record { events = es; steps = steps; past = r.0; run = subst (MirrorRun t es) (λ i. record r.0 { mirror = r.2.0 i; requests = r.2.1 i }) r.1 }
+pub comes_by : (target : ℕ) (t : Moment) (new : MirrorView) (es : List Event) → AllOf (IsBeforeEnrol target) es → (leads : Leads None t.mirror t.requests es new t.requests) → IsSteadyAt t
+    → AllLeftWhole es None t.mirror t.requests (λ m r. (m ≡ new) × (r ≡ t.requests)) leads → Comes (IsBeforeEnrol target) t new
+comes_by target t new es steps leads at whole =
+    let r = run_readable es None t (λ m q. (m ≡ new) × (q ≡ t.requests)) leads (all_such (IsBeforeEnrol target) LeavesShifts (before_leaves target) es steps) at.sound.honest whole in
+    record {
+      events = es;
+      steps = steps;
+      past = r.0;
+      run = subst (MirrorRun t es) (λ i. record r.0 { mirror = r.2.0 i; requests = r.2.1 i }) r.1;
+      readable = subst (StaysReadable t) (λ i. record r.0 { mirror = r.2.0 i; requests = r.2.1 i }) r.3;
+    }
 
 -- so of a kind that these are of
 pub comes_as : (Of Such : Event → Type 0) → ((e : Event) → Of e → Such e) → (t : Moment) (new : MirrorView) → Comes Of t new → Comes Such t new
-comes_as Of Such is t new c = record { events = c.events; steps = all_such Of Such is c.events c.steps; past = c.past; run = c.run }
+comes_as Of Such is t new c = record { events = c.events; steps = all_such Of Such is c.events c.steps; past = c.past; run = c.run; readable = c.readable }

@@ -35,7 +35,7 @@ use Rattle.md_copy.specs.Storing.{FailsToRecordTarget, StoresFirst}
 use Rattle.md_copy.specs.Stretches.{AreRecorded, MakesStretch, MayCopySlots, RecordsStretch, slots_after, slots_before}
 use Rattle.md_copy.specs.RebuildEvents.{FailsAtMarks, IsBeforeEnrol, IsOfRebuild, IsOfUnfinished}
 use Rattle.md_copy.specs.Rebuilding.{BeginsRebuild, EndsStoring, FillsBy, Rebuilds}
-use Rattle.md_call_laws.specs.Rebuilds.RebuildRuns.{AtMomentsWith}
+use Rattle.md_call_laws.specs.Rebuilds.RebuildRuns.{AtMomentsWith, StaysReadable}
 use Rattle.md_call_laws.specs.Rebuilds.RebuiltInLife.{HeldWhatItHad}
 
 -- ---- what it leaves
@@ -47,6 +47,7 @@ pub record IsCrashAfter (Of : Event → Type 0) (t : Moment) (left : List Disk) 
   pub at : Moment
   pub run : MirrorRun t events at
   pub is_left : IsLeftByCrash at left
+  pub readable : StaysReadable t at
 
 -- What is left is a crash of a run before the enrolment, and the target is not in sync yet.
 pub record IsCrashBefore (target : ℕ) (t : Moment) (left : List Disk) : Type 0 where
