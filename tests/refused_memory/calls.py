@@ -152,7 +152,6 @@ TAKES_NONE = {
     "md_commands::show_verbose_detail",
     "md_device::Fuse::share",
     "md_examine_commands::show_scan",
-    "md_raw_reports::super_faults_of",
     "md_copy::check_rebuild",
     # Their fault, `StoreFault' of md_faults, has the name of that of a store which is served (md_nbd), and that one may have no memory.
     "md_array::Mirror::record",
