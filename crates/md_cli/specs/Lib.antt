@@ -24,3 +24,5 @@ pub mod Scanning
 pub mod SetUuid
 -- The input and the output of a run.
 pub mod Streams
+-- Which commands start threads.
+pub mod Threads

@@ -2,7 +2,7 @@
 //!
 //! Start with `run` (`src/running.rt`), and what it gives, `Obeys` in `specs/Running.antt`. A command on an array goes one
 //! way: its images are taken (`src/arrays.rt`), their devices are opened as a mirror (`src/devices.rt`), and the command is
-//! done with it (`src/performing.rt`). `create` makes an array of images (`src/creating.rt`). The commands on one image are
+//! done with it (`src/performing.rt`), by one who does those alone that start no threads, or by one who does all. `create` makes an array of images (`src/creating.rt`). The commands on one image are
 //! in `md_examine_commands`, what is told and asked in `md_messages`. `scan` tells of which arrays images are members
 //! (`src/scanning.rt`).
 //!
@@ -22,6 +22,7 @@ mod growing;
 mod in_memory;
 mod lay_out_each;
 mod opened;
+mod performer;
 mod performing;
 mod read_watch;
 mod reading_on;
@@ -38,6 +39,6 @@ mod sizing;
 pub use md_read_commands::FillWatch;
 pub use read_watch::ReadWatch;
 pub use refusing::show_why;
-pub use running::run;
+pub use running::{run, run_in_one_thread};
 pub use scanning::{ScanOptions, scan};
 pub use session::Session;

@@ -1,7 +1,6 @@
 // What commands do with an opened array.
 ghost use Rattle.std.specs.Prelude.{◌≡◌, IfOk, MatchResult, codes, false, is_some, option_map, true};
 ghost use Rattle.md_array.specs.Consistency.{IsConsistent};
-ghost use Rattle.md_words.specs.Asks.{ask_of, compares, device_to_add, fills, opens_array};
 ghost use Rattle.md_state.specs.View.{disk_of};
 ghost use Rattle.md_commands.specs.Adding.{AddsDevice, KeepsDevice, RefusesJoining};
 ghost use Rattle.md_commands.specs.Objects.{plan_shown, summary_shown};
@@ -13,10 +12,12 @@ ghost use Rattle.md_commands.specs.Stopping.{StopsArrayAfter};
 ghost use Rattle.md_read_commands.specs.Filling.{has_put_all};
 ghost use Rattle.md_messages.specs.Telling.{texts};
 ghost use Rattle.md_cli.specs.Opened.{opened_view};
-ghost use Rattle.md_cli.specs.Performing.{PerformsAdd, PerformsCheck, Performs, PerformsReAdd, PerformsReadOn, PerformsRemove, PerformsServe, PerformsStop, PerformsWrite, ReadsFilledOn, ShowsMismatches, ShowsSectors, detail_shown, rebuild_extent, rebuilt_told, sectors_asked};
+ghost use Rattle.md_cli.specs.Performing.{PerformsAdd, PerformsCheck, PerformsReAdd, PerformsReadOn, PerformsRemove, PerformsServe, PerformsStop, PerformsWrite, ReadsFilledOn, ShowsMismatches, ShowsSectors, detail_shown, rebuild_extent, rebuilt_told, sectors_asked};
 ghost use Rattle.md_cli.specs.Streams.{streams_of};
+ghost use Rattle.md_cli.specs.Threads.{starts_threads};
 
 use crate::opened::Opened;
+use crate::performer::Performer;
 use crate::read_watch::ReadWatch;
 use crate::reading_on::{end_output, rest_from, with_earlier};
 use crate::session::Session;
@@ -36,81 +37,100 @@ use md_read_commands::{
     FillWatch, has_put_all, read_array, read_array_filled, read_array_readonly, serve_array,
 };
 use md_serve_commands::serve_writable;
-use md_words::{CheckForm, Command, DetailForm, RebuildForm};
+use md_words::{ArrayCommand, CheckForm, DetailForm, RebuildForm};
 use std::alloc::Global;
 use std::sync::Wait;
 use std::thread::Threads;
 
-/// Does a command with an opened array; the names are those of its images. The input is read by `Write`, `Serve` and
-/// `ServeWritable` alone, and these two tell the session's `watch` of each request that they refuse. `Check`, `Rebuild` and `ReAdd` alone
-/// start threads, and tell it of their reads.
-pub(crate) fn perform<
-    D: Device + Drop + Send,
-    T: Threads + Wait + Sync,
-    R: Source + Drop,
-    S: Sink + Drop,
-    W: ReadWatch + Sync,
-    A: Drop,
->(
-    session: &mut Session<'_, T, R, S, W, A>,
-    command: Command<'_>,
-    opened: &mut Opened<D>,
-    names: &[&str],
-) -> Result<(), CommandFault>
-    requires sound { IsConsistent opened.old.mirror }
-    requires opens { opens_array (ask_of command) ≡ true }
-    requires brings { is_some opened.old.beside ≡ is_some (device_to_add (ask_of command)) }
-    ensures performs { Performs R.Source S.Sink (texts names.now) (ask_of command.entry)
-        (opened_view D.Device opened.old) (opened_view D.Device opened.new)
-        (streams_of session.old) (streams_of session.new) result }
-    ensures noted { fills (ask_of command.entry) ≡ false → session.new.gaps ≡ session.old.gaps }
-    ensures counted { compares (ask_of command.entry) ≡ false
-        → session.new.mismatched ≡ session.old.mismatched }
-    ensures unasked { session.new.asker ≡ session.old.asker }
-    ensures flushed { IfOk result (λ _. S.is_flushed session.new.out) }
-{
-    let (rt, alloc, watch) = (session.rt, session.alloc, session.watch);
-    match command {
-        Command::Examine { .. }
-        | Command::ExamineBitmap { .. }
-        | Command::ExamineBadblocks { .. }
-        | Command::Scan { .. }
-        | Command::Create(_)
-        | Command::Grow { .. } => unreachable!(),
-        Command::Assemble { json, .. } => {
-            assemble(&opened.mirror, json, names, &mut session.out)
+/// Does the commands that start no threads.
+pub(crate) struct OneThread;
+
+impl<T> Performer<T> for OneThread {
+    ghost does = { λ ask. starts_threads ask ≡ false };
+
+    fn perform<
+        D: Device + Drop + Send,
+        R: Source + Drop,
+        S: Sink + Drop,
+        W: ReadWatch + Sync,
+        A: Drop,
+    >(
+        session: &mut Session<'_, T, R, S, W, A>,
+        command: ArrayCommand<'_>,
+        opened: &mut Opened<D>,
+        names: &[&str],
+    ) -> Result<(), CommandFault> {
+        let (alloc, watch) = (session.alloc, session.watch);
+        match command {
+            // These start threads.
+            ArrayCommand::Check { .. }
+            | ArrayCommand::ReAdd { .. }
+            | ArrayCommand::Rebuild { .. } => unreachable!(),
+            ArrayCommand::Assemble { json, .. } => {
+                assemble(&opened.mirror, json, names, &mut session.out)
+            }
+            ArrayCommand::Detail { form, .. } => detail(
+                &opened.mirror,
+                form,
+                names,
+                &mut session.out,
+            ),
+            ArrayCommand::Plan { member, json, .. } => {
+                plan(alloc, &opened.mirror, member, json, names, &mut session.out)
+            }
+            ArrayCommand::Read {
+                sector,
+                count,
+                fill,
+                readonly,
+            } => { read_sectors(session, opened, sector, count, fill, readonly) }
+            ArrayCommand::Serve { fill } => serve(session, opened, fill),
+            ArrayCommand::ServeWritable => {
+                let (mirror, input) = (&mut opened.mirror, &mut session.input);
+                serve_writable(alloc, mirror, watch, input, &mut session.out)
+            }
+            ArrayCommand::Write { sector, count } => {
+                let (input, out) = (&mut session.input, &mut session.out);
+                write_input(alloc, opened, sector, count, input, watch, out)
+            }
+            ArrayCommand::Resync => Ok(resync_array(alloc, &mut opened.mirror, &mut session.out)?),
+            ArrayCommand::Stop { json } => stop(opened, json, names, &mut session.out),
+            ArrayCommand::Fail { member } => {
+                Ok(fail_member(&mut opened.mirror, member, &mut session.out)?)
+            }
+            ArrayCommand::Remove { member } => remove(opened, member, &mut session.out),
+            ArrayCommand::Add { json, .. } => add(alloc, opened, json, names, &mut session.out),
         }
-        Command::Detail { form, .. } => detail(&opened.mirror, form, names, &mut session.out),
-        Command::Plan { member, json, .. } => {
-            plan(alloc, &opened.mirror, member, json, names, &mut session.out)
-        }
-        Command::Read {
-            sector,
-            count,
-            fill,
-            readonly,
-        } => { read_sectors(session, opened, sector, count, fill, readonly) }
-        Command::Serve { fill } => serve(session, opened, fill),
-        Command::ServeWritable => {
-            let (mirror, input) = (&mut opened.mirror, &mut session.input);
-            serve_writable(alloc, mirror, watch, input, &mut session.out)
-        }
-        Command::Check { form, .. } => check(session, opened, form, names),
-        Command::Write { sector, count } => {
-            let (input, out) = (&mut session.input, &mut session.out);
-            write_input(alloc, opened, sector, count, input, watch, out)
-        }
-        Command::Resync => Ok(resync_array(alloc, &mut opened.mirror, &mut session.out)?),
-        Command::Stop { json } => stop(opened, json, names, &mut session.out),
-        Command::Fail { member } => {
-            Ok(fail_member(&mut opened.mirror, member, &mut session.out)?)
-        }
-        Command::Remove { member } => remove(opened, member, &mut session.out),
-        Command::Add { json, .. } => add(alloc, opened, json, names, &mut session.out),
-        Command::ReAdd { full, json, .. } => re_add(session, opened, full, json, names),
-        Command::Rebuild { member, form } => {
-            let (mirror, out) = (&mut opened.mirror, &mut session.out);
-            rebuild(rt, alloc, mirror, member, form, watch, out)
+    }
+}
+
+/// Does all commands: those that start threads too, which may wait for them.
+pub(crate) struct Threaded;
+
+impl<T: Threads + Wait + Sync> Performer<T> for Threaded {
+    ghost does = { λ ask. Unit {0} };
+
+    fn perform<
+        D: Device + Drop + Send,
+        R: Source + Drop,
+        S: Sink + Drop,
+        W: ReadWatch + Sync,
+        A: Drop,
+    >(
+        session: &mut Session<'_, T, R, S, W, A>,
+        command: ArrayCommand<'_>,
+        opened: &mut Opened<D>,
+        names: &[&str],
+    ) -> Result<(), CommandFault> {
+        let (rt, alloc, watch) = (session.rt, session.alloc, session.watch);
+        match command {
+            ArrayCommand::Check { form, .. } => check(session, opened, form, names),
+            ArrayCommand::ReAdd { full, json, .. } => re_add(session, opened, full, json, names),
+            ArrayCommand::Rebuild { member, form } => {
+                let (mirror, out) = (&mut opened.mirror, &mut session.out);
+                rebuild(rt, alloc, mirror, member, form, watch, out)
+            }
+            _ => OneThread::perform(session, command, opened, names),
         }
     }
 }

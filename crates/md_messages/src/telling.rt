@@ -17,7 +17,7 @@ use md_notices::{
     marked_line, parted_line, standing_line, uncompared_line, unnamed_line, unread_line,
     unseen_line,
 };
-use md_words::{Command, Overwritten};
+use md_words::{ArrayCommand, Command, Overwritten};
 
 // The name in a place, where there is one.
 fn name_at<'a>(names: &[&'a str], k: usize) -> Option<&'a str>
@@ -434,7 +434,7 @@ fn put_uncompared<S: Sink>(
     ensures { PutsOrFails S.contents S.failed out.old out.new
         (uncompared_lines (ask_of command.entry) (texts names.now) notices.now) result }
 {
-    let Command::Check { .. } = command else {
+    let Command::Array(ArrayCommand::Check { .. }) = command else {
         return out.put(b"");
     };
     match name_in(names, notices.alone) {
@@ -449,7 +449,9 @@ fn put_lost<S: Sink>(out: &mut S, command: Command<'_>, audience: Audience) -> R
         (lost_lines audience (ask_of command.entry)) result }
 {
     match command {
-        Command::Add { device, .. } if audience.messages.has_advice() => lost_line(out, device),
+        Command::Array(ArrayCommand::Add { device, .. }) if audience.messages.has_advice() => {
+            lost_line(out, device)
+        }
         _ => out.put(b""),
     }
 }

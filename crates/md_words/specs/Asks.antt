@@ -4,6 +4,10 @@ use Rattle.clap.specs.Words.{Text}
 use Rattle.md_images.specs.declared.access.Access.{Access}
 use Rattle.md_images.specs.declared.access.Access.TheVariants.{Change, ChangeOrLook, Look}
 use Rattle.md_words.specs.declared.create_options.CreateOptions.{CreateOptions}
+use Rattle.md_words.specs.declared.array_command.ArrayCommand.{ArrayCommand}
+use Rattle.md_words.specs.declared.array_command.ArrayCommand.TheVariants as array
+use Rattle.md_words.specs.declared.image_command.ImageCommand.{ImageCommand}
+use Rattle.md_words.specs.declared.image_command.ImageCommand.TheVariants as image
 use Rattle.md_words.specs.declared.command.Command.{Command}
 use Rattle.md_words.specs.declared.command.Command.TheVariants as command
 use Rattle.md_words.specs.declared.form.CheckForm.{CheckForm}
@@ -85,16 +89,6 @@ full_access_of _ = Change
 -- how the images are opened
 abbrev pub access_of : Ask → Access
 access_of ask = if is_readonly ask then Look else full_access_of ask
-
--- whether the images are opened as an array
-abbrev pub opens_array : Ask → Bool
-opens_array (examines form) = false
-opens_array (examines_bitmap form) = false
-opens_array (examines_badblocks form) = false
-opens_array (scans json) = false
-opens_array (creates o) = false
-opens_array (grows bitmap kib) = false
-opens_array _ = true
 
 -- where it tells of which arrays images are members: whether the report is a JSON object
 abbrev pub scan_form : Ask → Option Bool
@@ -227,25 +221,31 @@ options_of o = record {
   json = o.json;
 }
 
+abbrev pub image_ask : ImageCommand → Ask
+image_ask (image.Examine form) = examines form
+image_ask (image.ExamineBitmap form) = examines_bitmap form
+image_ask (image.ExamineBadblocks form) = examines_badblocks form
+
+abbrev pub array_ask : ArrayCommand → Ask
+array_ask (array.Assemble json readonly) = assembles json readonly
+array_ask (array.Detail form readonly) = details form readonly
+array_ask (array.Plan k json readonly) = plans k json readonly
+array_ask (array.Read sector count fill readonly) = reads sector count fill readonly
+array_ask (array.Serve fill) = serves fill
+array_ask array.ServeWritable = serves_writable
+array_ask (array.Check form exit_code readonly) = checks form exit_code readonly
+array_ask (array.Write sector count) = writes sector count
+array_ask array.Resync = resyncs
+array_ask (array.Stop json) = stops json
+array_ask (array.Fail k) = fails k
+array_ask (array.Remove k) = removes k
+array_ask (array.Add device json) = adds device.now json
+array_ask (array.ReAdd device full json) = re_adds device.now full json
+array_ask (array.Rebuild k form) = rebuilds k form
+
 abbrev pub ask_of : Command → Ask
-ask_of (command.Examine form) = examines form
-ask_of (command.ExamineBitmap form) = examines_bitmap form
-ask_of (command.ExamineBadblocks form) = examines_badblocks form
+ask_of (command.Image c) = image_ask c
 ask_of (command.Scan json) = scans json
 ask_of (command.Create options) = creates (options_of options)
 ask_of (command.Grow bitmap kib) = grows bitmap.now kib
-ask_of (command.Assemble json readonly) = assembles json readonly
-ask_of (command.Detail form readonly) = details form readonly
-ask_of (command.Plan k json readonly) = plans k json readonly
-ask_of (command.Read sector count fill readonly) = reads sector count fill readonly
-ask_of (command.Serve fill) = serves fill
-ask_of command.ServeWritable = serves_writable
-ask_of (command.Check form exit_code readonly) = checks form exit_code readonly
-ask_of (command.Write sector count) = writes sector count
-ask_of command.Resync = resyncs
-ask_of (command.Stop json) = stops json
-ask_of (command.Fail k) = fails k
-ask_of (command.Remove k) = removes k
-ask_of (command.Add device json) = adds device.now json
-ask_of (command.ReAdd device full json) = re_adds device.now full json
-ask_of (command.Rebuild k form) = rebuilds k form
+ask_of (command.Array c) = array_ask c

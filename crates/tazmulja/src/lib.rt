@@ -77,7 +77,7 @@ pub use md_examine::{Output, Sink, SinkFault, examine, examine_badblocks, examin
 pub use md_report::{check_report, detail, plan_report, rebuilt_report, summary};
 
 // Commands, over images by name.
-pub use md_cli::{FillWatch, ReadWatch, Session, run};
+pub use md_cli::{FillWatch, ReadWatch, Session, run, run_in_one_thread};
 pub use md_commands::{Input, Source, Watch};
 pub use md_images::{Images, MemImages};
 pub use md_messages::{Asker, Messages};

@@ -7,7 +7,7 @@ use Rattle.md_images.specs.declared.fault.ImagesFault.TheVariants.{BadImage, NoM
 use Rattle.md_images.specs.Images.{asks}
 use Rattle.md_images.specs.Taking.{ArePut, RefusesImages, Text, Word, image_list, names_of, word_of}
 use Rattle.md_images.proofs.Taken.{restored}
-use Rattle.md_words.specs.Asks.{ask_of}
+use Rattle.md_words.specs.Asks.{array_ask}
 use Rattle.md_messages.specs.Telling.{texts}
 use Rattle.md_cli.specs.Arrays.{UsesImages, WorksOn, may}
 use Rattle.md_messages.specs.Question.{question}
@@ -31,12 +31,12 @@ pub returns-clause-gives : goal.returns-clause-gives
 returns-clause-gives g c =
     let i = g.I.Images in
     let call = c.with_devices-devices in
-    let ask = ask_of c.args.command in
+    let ask = array_ask c.args.command in
     let words_are : map word_of c.as_slice-words.result.now ≡ image_list false (texts c.args.names.now) = ap (map word_of) c.as_slice-words.ensures.value ∙ c.in-Ok.ensures in
     let Using : Access → List Word → Type 0 =
-    λ access words. UsesImages i g.I.Dev.Device (WorksOn g.R.Source g.S.Sink (question g.A.Asker (ask_of c.args.command) (texts c.args.names.now)) (texts c.args.names.now) ask c.args.chunk) access words c.args.images.now c.put_back.new.images (told_of c.args.session.now c.args.notices.now) (told_of call.new.session call.new.notices) call.result.1 in
+    λ access words. UsesImages i g.I.Dev.Device (WorksOn g.R.Source g.S.Sink (question g.A.Asker (array_ask c.args.command) (texts c.args.names.now)) (texts c.args.names.now) ask c.args.chunk) access words c.args.images.now c.put_back.new.images (told_of c.args.session.now c.args.notices.now) (told_of call.new.session call.new.notices) call.result.1 in
     let done : Using c.access.result (map word_of c.as_slice-words.result.now) =
-    used i g.I.Dev.Device (WorksOn g.R.Source g.S.Sink (question g.A.Asker (ask_of c.args.command) (texts c.args.names.now)) (texts c.args.names.now) ask c.args.chunk) c.access.result (map word_of c.as_slice-words.result.now) c.args.images.now c.take_images.new.images c.put_back.new.images c.in_ok-devices.devices.items call.result.0.items (told_of c.args.session.now c.args.notices.now) (told_of call.new.session call.new.notices) call.result.1 c.in_ok-devices.ensures.gives c.take_images.ensures.known call.ensures.as_many c.put_back.ensures.back call.ensures.gives in
+    used i g.I.Dev.Device (WorksOn g.R.Source g.S.Sink (question g.A.Asker (array_ask c.args.command) (texts c.args.names.now)) (texts c.args.names.now) ask c.args.chunk) c.access.result (map word_of c.as_slice-words.result.now) c.args.images.now c.take_images.new.images c.put_back.new.images c.in_ok-devices.devices.items call.result.0.items (told_of c.args.session.now c.args.notices.now) (told_of call.new.session call.new.notices) call.result.1 c.in_ok-devices.ensures.gives c.take_images.ensures.known call.ensures.as_many c.put_back.ensures.back call.ensures.gives in
     subst (λ (access : Access). Using access (image_list false (texts c.args.names.now))) c.access.ensures (subst (Using c.access.result) words_are done)
 
 pub returns-in_err-devices-clause-gives : goal.returns-in_err-devices-clause-gives
@@ -57,7 +57,7 @@ returns-in_err-devices-clause-gives g c =
 pub returns-in_err-devices-clause-kept : goal.returns-in_err-devices-clause-kept
 returns-in_err-devices-clause-kept g c = λ readonly is name. (
   as_before _ _ _ _ _ c.in_err-devices.field-0.0 c.in_err-devices.ensures.gives (λ e n. ap (λ images. g.I.Images.device_at images n) e) is name,
-  c.take_images.ensures.looks is (ap asks c.access.ensures ∙ only_looks (ask_of c.args.command) readonly) name,
+  c.take_images.ensures.looks is (ap asks c.access.ensures ∙ only_looks (array_ask c.args.command) readonly) name,
 )
 
 pub returns-clause-kept : goal.returns-clause-kept
@@ -68,5 +68,5 @@ returns-clause-kept g c = λ readonly is name.
     let words = map word_of c.as_slice-words.result.now in
     let put = subst (λ given. ArePut mid after (names_of words) (length given) given) (c.with_devices-devices.ensures.kept readonly) (c.put_back.ensures.back (c.take_images.ensures.known ∙ is)) in (
       restored (i.device_at c.args.images.now) mid after _ _ c.in_ok-devices.devices.items (c.in_ok-devices.ensures.gives.taken is) put name,
-      c.put_back.ensures.asked (c.take_images.ensures.known ∙ is) name ∙ c.take_images.ensures.looks is (ap asks c.access.ensures ∙ only_looks (ask_of c.args.command) readonly) name,
+      c.put_back.ensures.asked (c.take_images.ensures.known ∙ is) name ∙ c.take_images.ensures.looks is (ap asks c.access.ensures ∙ only_looks (array_ask c.args.command) readonly) name,
     )

@@ -1,5 +1,5 @@
 use Rattle.std.proofs.Common.{Ok, inl, subst, sym}
-use Rattle.md_words.specs.Asks.{ask_of}
+use Rattle.md_words.specs.Asks.{array_ask}
 use Rattle.md_messages.specs.Question.{question}
 use Rattle.md_messages.specs.Telling.{texts}
 use Rattle.md_cli.specs.Opened.{opened_view}
@@ -9,7 +9,7 @@ use Rattle.md_cli.proofs.asking.perform_asked.Goals as goal
 
 pub returns-in-Ok-clause-answers : goal.returns-in-Ok-clause-answers
 returns-in-Ok-clause-answers g c =
-    let ask = ask_of c.args.command in
+    let ask = array_ask c.args.command in
     let names = texts c.args.names.now in
     let view = opened_view g.D.Device in
     inl (record {

@@ -1,7 +1,7 @@
 use Rattle.std.proofs.Common.{◌≡◌, ◌++◌, ◌∷◌, [], Some, inl, map, rules}
 use Rattle.std.specs.Prelude.{is_some, true}
 use Rattle.md_state.specs.View.{disk_of}
-use Rattle.md_words.specs.Asks.{ask_of, device_to_add}
+use Rattle.md_words.specs.Asks.{array_ask, device_to_add}
 use Rattle.md_cli.proofs.Joined.{last_of}
 use Rattle.md_cli.proofs.devices.open_devices.Goals as goal
 
@@ -11,7 +11,7 @@ returns-in-Some-pop-clause-gives g c =
     let members = c.pop.new.self.items in
     let device = c.in-Some-pop.device in
     let are : c.args.devices.items ≡ members ++ device ∷ [] = c.in-Some-pop.ensures.items in
-    let brings : true ≡ is_some (device_to_add (ask_of c.args.command)) = search rules in
+    let brings : true ≡ is_some (device_to_add (array_ask c.args.command)) = search rules in
     inl (record {
       members = map disk members;
       device = Some (disk device);

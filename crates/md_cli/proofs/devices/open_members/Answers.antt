@@ -1,7 +1,7 @@
 use Rattle.std.proofs.Common.{◌∙◌, Bool, ap, inl, inr, map, option_map, refl, sym}
 use Rattle.std.proofs.lemmas.List.{length-map}
 use Rattle.md_state.specs.View.{disk_of}
-use Rattle.md_words.specs.Asks.{ask_of}
+use Rattle.md_words.specs.Asks.{array_ask}
 use Rattle.md_messages.specs.Noticed.{with_dropped}
 use Rattle.md_messages.specs.Telling.{texts}
 use Rattle.md_messages.specs.Question.{question}
@@ -15,36 +15,36 @@ pub all_back-requires-clause-room : goal.all_back-requires-clause-room
 all_back-requires-clause-room g c =
     let d = g.D.Device in
     let new = c.perform_asked-done.new.opened in
-    let ask = ask_of c.args.command in
+    let ask = array_ask c.args.command in
     let many = c.in-Ok.ensures.gives.marked.same.as_many ∙ length-map c.args.members.items (disk_of d) in
-    let back = all_answered g.R.Source g.S.Sink (question g.A.Asker (ask_of c.args.command) (texts c.args.names.now)) (texts c.args.names.now) c.note.new.self (record { mirror = c.in-Ok.mirror; beside = option_map (disk_of d) c.args.beside }) (opened_view d new) (streams_of c.args.session.now) (streams_of c.perform_asked-done.new.session) ask c.perform_asked-done.result (there_same (disk_of d) c.args.beside ∙ c.requires.brings) c.perform_asked-done.ensures.answers in
+    let back = all_answered g.R.Source g.S.Sink (question g.A.Asker (array_ask c.args.command) (texts c.args.names.now)) (texts c.args.names.now) c.note.new.self (record { mirror = c.in-Ok.mirror; beside = option_map (disk_of d) c.args.beside }) (opened_view d new) (streams_of c.args.session.now) (streams_of c.perform_asked-done.new.session) ask c.perform_asked-done.result (there_same (disk_of d) c.args.beside ∙ c.requires.brings) c.perform_asked-done.ensures.answers in
     room_back d ask c.args.members.items c.into_devices-members.result.items c.args.beside new.beside c.in-Ok.mirror.disks new.mirror.disks many c.into_devices-members.ensures back _ c.requires.room
 
 pub all_back-requires-clause-within : goal.all_back-requires-clause-within
 all_back-requires-clause-within g c =
     let d = g.D.Device in
     let new = c.perform_asked-done.new.opened in
-    let ask = ask_of c.args.command in
+    let ask = array_ask c.args.command in
     let many = c.in-Ok.ensures.gives.marked.same.as_many ∙ length-map c.args.members.items (disk_of d) in
-    let back = all_answered g.R.Source g.S.Sink (question g.A.Asker (ask_of c.args.command) (texts c.args.names.now)) (texts c.args.names.now) c.note.new.self (record { mirror = c.in-Ok.mirror; beside = option_map (disk_of d) c.args.beside }) (opened_view d new) (streams_of c.args.session.now) (streams_of c.perform_asked-done.new.session) ask c.perform_asked-done.result (there_same (disk_of d) c.args.beside ∙ c.requires.brings) c.perform_asked-done.ensures.answers in
+    let back = all_answered g.R.Source g.S.Sink (question g.A.Asker (array_ask c.args.command) (texts c.args.names.now)) (texts c.args.names.now) c.note.new.self (record { mirror = c.in-Ok.mirror; beside = option_map (disk_of d) c.args.beside }) (opened_view d new) (streams_of c.args.session.now) (streams_of c.perform_asked-done.new.session) ask c.perform_asked-done.result (there_same (disk_of d) c.args.beside ∙ c.requires.brings) c.perform_asked-done.ensures.answers in
     within_back d ask c.args.members.items c.into_devices-members.result.items c.args.beside new.beside c.in-Ok.mirror.disks new.mirror.disks many c.into_devices-members.ensures back
 
 pub returns-in-Ok-clause-as_many : goal.returns-in-Ok-clause-as_many
 returns-in-Ok-clause-as_many g c =
     let d = g.D.Device in
     let new = c.perform_asked-done.new.opened in
-    let ask = ask_of c.args.command in
+    let ask = array_ask c.args.command in
     let many = c.in-Ok.ensures.gives.marked.same.as_many ∙ length-map c.args.members.items (disk_of d) in
-    let back = all_answered g.R.Source g.S.Sink (question g.A.Asker (ask_of c.args.command) (texts c.args.names.now)) (texts c.args.names.now) c.note.new.self (record { mirror = c.in-Ok.mirror; beside = option_map (disk_of d) c.args.beside }) (opened_view d new) (streams_of c.args.session.now) (streams_of c.perform_asked-done.new.session) ask c.perform_asked-done.result (there_same (disk_of d) c.args.beside ∙ c.requires.brings) c.perform_asked-done.ensures.answers in
+    let back = all_answered g.R.Source g.S.Sink (question g.A.Asker (array_ask c.args.command) (texts c.args.names.now)) (texts c.args.names.now) c.note.new.self (record { mirror = c.in-Ok.mirror; beside = option_map (disk_of d) c.args.beside }) (opened_view d new) (streams_of c.args.session.now) (streams_of c.perform_asked-done.new.session) ask c.perform_asked-done.result (there_same (disk_of d) c.args.beside ∙ c.requires.brings) c.perform_asked-done.ensures.answers in
     as_many_back d ask c.args.members.items c.into_devices-members.result.items c.args.beside new.beside c.in-Ok.mirror.disks new.mirror.disks many c.into_devices-members.ensures back c.all_back.result.items c.all_back.ensures
 
 pub returns-in-Ok-clause-gives : goal.returns-in-Ok-clause-gives
 returns-in-Ok-clause-gives g c =
     let d = g.D.Device in
     let new = c.perform_asked-done.new.opened in
-    let ask = ask_of c.args.command in
+    let ask = array_ask c.args.command in
     let many = c.in-Ok.ensures.gives.marked.same.as_many ∙ length-map c.args.members.items (disk_of d) in
-    let back = all_answered g.R.Source g.S.Sink (question g.A.Asker (ask_of c.args.command) (texts c.args.names.now)) (texts c.args.names.now) c.note.new.self (record { mirror = c.in-Ok.mirror; beside = option_map (disk_of d) c.args.beside }) (opened_view d new) (streams_of c.args.session.now) (streams_of c.perform_asked-done.new.session) ask c.perform_asked-done.result (there_same (disk_of d) c.args.beside ∙ c.requires.brings) c.perform_asked-done.ensures.answers in
+    let back = all_answered g.R.Source g.S.Sink (question g.A.Asker (array_ask c.args.command) (texts c.args.names.now)) (texts c.args.names.now) c.note.new.self (record { mirror = c.in-Ok.mirror; beside = option_map (disk_of d) c.args.beside }) (opened_view d new) (streams_of c.args.session.now) (streams_of c.perform_asked-done.new.session) ask c.perform_asked-done.result (there_same (disk_of d) c.args.beside ∙ c.requires.brings) c.perform_asked-done.ensures.answers in
     inl (record {
       opened = c.in-Ok.mirror;
       opens = c.in-Ok.ensures.gives;
@@ -59,7 +59,7 @@ returns-in-Ok-clause-gives g c =
 pub all_back-devices-requires-clause-room : goal.all_back-devices-requires-clause-room
 all_back-devices-requires-clause-room g c =
     let disk = disk_of g.D.Device in
-    let ask = ask_of c.args.command in
+    let ask = array_ask c.args.command in
     let before = map disk c.args.members.items in
     let after = map disk c.in-Err.members.items in
     let back = refused_back ask before after (option_map disk c.args.beside) (there_same disk c.args.beside ∙ c.requires.brings) (refused_as_many before after c.in-Err.fault c.in-Err.ensures.gives) in
@@ -68,7 +68,7 @@ all_back-devices-requires-clause-room g c =
 pub all_back-devices-requires-clause-within : goal.all_back-devices-requires-clause-within
 all_back-devices-requires-clause-within g c =
     let disk = disk_of g.D.Device in
-    let ask = ask_of c.args.command in
+    let ask = array_ask c.args.command in
     let before = map disk c.args.members.items in
     let after = map disk c.in-Err.members.items in
     let back = refused_back ask before after (option_map disk c.args.beside) (there_same disk c.args.beside ∙ c.requires.brings) (refused_as_many before after c.in-Err.fault c.in-Err.ensures.gives) in
@@ -77,7 +77,7 @@ all_back-devices-requires-clause-within g c =
 pub returns-in-Err-clause-as_many : goal.returns-in-Err-clause-as_many
 returns-in-Err-clause-as_many g c =
     let disk = disk_of g.D.Device in
-    let ask = ask_of c.args.command in
+    let ask = array_ask c.args.command in
     let before = map disk c.args.members.items in
     let after = map disk c.in-Err.members.items in
     let back = refused_back ask before after (option_map disk c.args.beside) (there_same disk c.args.beside ∙ c.requires.brings) (refused_as_many before after c.in-Err.fault c.in-Err.ensures.gives) in
@@ -86,7 +86,7 @@ returns-in-Err-clause-as_many g c =
 pub returns-in-Err-clause-gives : goal.returns-in-Err-clause-gives
 returns-in-Err-clause-gives g c =
     let disk = disk_of g.D.Device in
-    let ask = ask_of c.args.command in
+    let ask = array_ask c.args.command in
     let before = map disk c.args.members.items in
     let after = map disk c.in-Err.members.items in
     let back = refused_back ask before after (option_map disk c.args.beside) (there_same disk c.args.beside ∙ c.requires.brings) (refused_as_many before after c.in-Err.fault c.in-Err.ensures.gives) in

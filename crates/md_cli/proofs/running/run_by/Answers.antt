@@ -10,7 +10,7 @@ use Rattle.md_cli.specs.Running.{DoesScan, Obeys, status_of}
 use Rattle.md_cli.specs.Streams.{streams_of, told_of}
 use Rattle.md_cli.proofs.Flushed.{still_flushed, when_done}
 use Rattle.md_cli.proofs.Scanned.{never_three}
-use Rattle.md_cli.proofs.running.run.Goals as goal
+use Rattle.md_cli.proofs.running.run_by.Goals as goal
 
 pub returns-clause-refused : goal.returns-clause-refused
 returns-clause-refused g c = λ other. absurd (other (subst (λ parsed. FailsBy (words_fault (texts c.args.words.now)) parsed) c.in-Ok.is c.requires.fails))
