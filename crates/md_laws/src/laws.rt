@@ -19,6 +19,7 @@ ghost use Rattle.md_laws.specs.Lives.{AtEachMoment, ContentGoesAlongTold, FindsA
 ghost use Rattle.md_laws.specs.Recovering.{ContentGoesAlong, KeepsRecovering, ListsWhereKnown, MirrorKeepsSure, OffsetsAreKept, SaysNoMoreWhenOpened, SaysNoMoreWhereKnown, SaysNoMoreWithoutList};
 ghost use Rattle.md_laws.specs.Returning.{StartsAgain};
 ghost use Rattle.md_laws.specs.Runs.{HasContent};
+ghost use Rattle.md_laws.specs.Unlogged.{StaysUnlogged};
 ghost use Rattle.md_laws.specs.Spoiled.{CrashesAsSpoiled, CrashesAtEnrolAsSpoiled, CrashesAtFailedEnrolAsSpoiled};
 ghost use Rattle.md_laws.specs.ReadAfterCrashes.{ReadsAtAdd, ReadsAtReAdd, ReadsAtTarget};
 ghost use Rattle.md_laws.specs.CrashesWithin.{CrashesAsFailed, CrashesAsFilled, CrashesAsPrepared, CrashesAsTried, CrashesAtAdd, CrashesAtEnrol, CrashesAtEvents, CrashesAtFailedAdd, CrashesAtFailedEnrol, CrashesAtFailedReAdd, CrashesAtFailure, CrashesAtReAdd, CrashesAtRefusedAdd, CrashesAtRefusedReAdd, CrashesAtRemoval, CrashesAtSector, CrashesAtWrite, CrashesInMemory, CrashesUndivided};
@@ -119,6 +120,12 @@ pub fn every_run()
     ensures read_as_kept { IsReadAsKeptInLives }
     ensures reads_recorded { ReadsRecorded }
     ensures keeps_geometry { KeepsGeometry }
+{}
+
+/// As long as no log is stored since an opening, an opening misreads the members that are spoiled, and no others: so
+/// none that is in sync, due or not (`every_run`, clause `sound`).
+pub fn unlogged()
+    ensures stays { StaysUnlogged }
 {}
 
 /// When the superblock of the next opening is fit: it is enough that one of its devices is as new as the opening
