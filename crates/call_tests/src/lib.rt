@@ -42,6 +42,10 @@ mod resyncs;
 #[cfg(test)]
 mod run;
 #[cfg(test)]
+mod salvage_rows;
+#[cfg(test)]
+mod salvages;
+#[cfg(test)]
 mod told;
 #[cfg(test)]
 mod unresynced_reads;
