@@ -20,6 +20,8 @@ mod call;
 #[cfg(test)]
 mod checks;
 #[cfg(test)]
+mod created;
+#[cfg(test)]
 mod data;
 #[cfg(test)]
 mod failing_reads;
@@ -27,6 +29,8 @@ mod failing_reads;
 mod gates;
 #[cfg(test)]
 mod left;
+#[cfg(test)]
+mod listed_sectors;
 #[cfg(test)]
 mod members;
 #[cfg(test)]

@@ -13,7 +13,7 @@ use Rattle.md_state.specs.View.{ArrayView}
 use Rattle.md_state.specs.Members.{IsMember}
 use Rattle.md_copy.specs.Table.Sources.{IsTableOf}
 use Rattle.md_copy.specs.Table.Targets.{IsTarget}
-use Rattle.md_copy.specs.declared.table.fault.RebuildFault.{RebuildFault}
+use Rattle.md_copy.specs.declared.tables.fault.RebuildFault.{RebuildFault}
 use Rattle.md_copy.specs.Table.Beginning.{RefusesTable}
 use Rattle.md_examine.specs.declared.sink.Sink.{Ghosts}
 use Rattle.md_commands.specs.declared.fault.CommandFault.{CommandFault}

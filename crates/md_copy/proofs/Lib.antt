@@ -26,3 +26,5 @@ pub mod Refusals
 pub mod PassLemmas
 -- What is known of a rebuild before anything is copied.
 pub mod TableLemmas
+-- Which sectors are listed where some are lost.
+pub mod SalvageLemmas

@@ -7,8 +7,8 @@ use Rattle.md_state.specs.Steps.Enrol.{HasFullLogChunks, HasRoomInLogChunks}
 use Rattle.md_state.specs.Missing.{is_missing}
 use Rattle.md_state.specs.View.{MirrorView}
 use Rattle.md_array.specs.Steps.Enrol.{EnrolsChunks, FailsToEnrolChunks, MayEnrol}
-use Rattle.md_copy.specs.declared.table.fault.RebuildFault.{RebuildFault}
-use Rattle.md_copy.specs.declared.table.fault.RebuildFault.TheVariants.{LogFull, NoMemory, TargetFault}
+use Rattle.md_copy.specs.declared.tables.fault.RebuildFault.{RebuildFault}
+use Rattle.md_copy.specs.declared.tables.fault.RebuildFault.TheVariants.{LogFull, NoMemory, TargetFault}
 use Rattle.md_copy.specs.Table.Orphans.{IsSetOf, IsSubset, is_in, uncopied_chunks}
 use Rattle.md_copy.specs.declared.orphans.Orphans.{Orphans}
 use Rattle.md_copy.specs.declared.rebuilt.Rebuilt.{Rebuilt}

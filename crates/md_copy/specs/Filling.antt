@@ -18,8 +18,8 @@ use Rattle.md_pass.specs.Sources.{copy_of}
 use Rattle.md_state.specs.DiskWrites.{AtDevice}
 use Rattle.md_state.specs.Members.{IsMember}
 use Rattle.md_state.specs.View.{Disk, MirrorView, of_disks}
-use Rattle.md_copy.specs.declared.table.fault.RebuildFault.{RebuildFault}
-use Rattle.md_copy.specs.declared.table.fault.RebuildFault.TheVariants.{NoMemory, TargetFault}
+use Rattle.md_copy.specs.declared.tables.fault.RebuildFault.{RebuildFault}
+use Rattle.md_copy.specs.declared.tables.fault.RebuildFault.TheVariants.{NoMemory, TargetFault}
 use Rattle.md_copy.specs.RebuildSources.{ServesChunk}
 
 -- Whatever became of the pass: in memory all is as before, the devices are in their places, all but the target's were only read, and

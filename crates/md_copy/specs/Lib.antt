@@ -36,3 +36,5 @@ pub mod PassLaws
 pub mod Told
 -- What is known of a rebuild before anything is copied.
 pub mod Table
+-- Which sectors are listed where some are lost (this project's own).
+pub mod Salvaging

@@ -27,8 +27,8 @@ use Rattle.md_metadata.specs.Going.{GoesOn, only_others}
 use Rattle.md_metadata.specs.Storing.{HaltsAtWrite, IsNoFailure, LosesStoring}
 use Rattle.md_metadata.specs.StoringLists.{HasStoredList, list_events}
 use Rattle.md_copy.specs.PassLaws.Listed.{IsSourceInRole, ListsFailed}
-use Rattle.md_copy.specs.declared.table.fault.RebuildFault.{RebuildFault}
-use Rattle.md_copy.specs.declared.table.fault.RebuildFault.TheVariants.{LogFull, MetadataFault, NoMemory}
+use Rattle.md_copy.specs.declared.tables.fault.RebuildFault.{RebuildFault}
+use Rattle.md_copy.specs.declared.tables.fault.RebuildFault.TheVariants.{LogFull, MetadataFault, NoMemory}
 
 -- ---- in memory
 abbrev pub IsNoting : Event → Type 0

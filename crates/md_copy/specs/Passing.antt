@@ -12,8 +12,8 @@ use Rattle.md_array.specs.Consistency.{IsConsistent}
 use Rattle.md_pass.specs.Copied.{AreUncopied}
 use Rattle.md_copy.specs.PassLaws.Listed.{IsArrayPass, IsFailedOf}
 use Rattle.md_copy.specs.PassLaws.Passes.{PassView, failed_chunks, slots_of_pass}
-use Rattle.md_copy.specs.declared.table.fault.RebuildFault.{RebuildFault}
-use Rattle.md_copy.specs.declared.table.fault.RebuildFault.TheVariants.{LogFull, MetadataFault, NoMemory, TargetFault}
+use Rattle.md_copy.specs.declared.tables.fault.RebuildFault.{RebuildFault}
+use Rattle.md_copy.specs.declared.tables.fault.RebuildFault.TheVariants.{LogFull, MetadataFault, NoMemory, TargetFault}
 use Rattle.md_copy.specs.Table.Sources.{HasSources, IsTableIn, missing_chunks}
 use Rattle.md_copy.specs.declared.passes.Passed.{Passed}
 use Rattle.md_copy.specs.Held.{AreHeld}

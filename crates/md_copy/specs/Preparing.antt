@@ -1,8 +1,8 @@
 -- What is told of a rebuild, and the fault of one that found no memory.
 use Rattle.std.specs.Prelude.{◌≡◌, ℕ, List, length, map}
 use Rattle.md_copy.specs.PassLaws.Passes.{PassView}
-use Rattle.md_copy.specs.declared.table.fault.RebuildFault.{RebuildFault}
-use Rattle.md_copy.specs.declared.table.fault.RebuildFault.TheVariants.{NoMemory}
+use Rattle.md_copy.specs.declared.tables.fault.RebuildFault.{RebuildFault}
+use Rattle.md_copy.specs.declared.tables.fault.RebuildFault.TheVariants.{NoMemory}
 use Rattle.md_copy.specs.declared.rebuilt.Rebuilt.{Rebuilt}
 
 -- what is told of these passes, and of the chunks that nobody could give

@@ -9,8 +9,8 @@ use Rattle.md_array.specs.Steps.Admit.{Admits, FailsToAdmit}
 use Rattle.md_array.specs.Steps.LowerOffset.{LowersOffset}
 use Rattle.md_array.specs.Consistency.{IsConsistent}
 use Rattle.md_state.specs.Steps.Checkpoint.{IsFirstEnd}
-use Rattle.md_copy.specs.declared.table.fault.RebuildFault.{RebuildFault}
-use Rattle.md_copy.specs.declared.table.fault.RebuildFault.TheVariants.{MetadataFault, NoMemory, TargetFault}
+use Rattle.md_copy.specs.declared.tables.fault.RebuildFault.{RebuildFault}
+use Rattle.md_copy.specs.declared.tables.fault.RebuildFault.TheVariants.{MetadataFault, NoMemory, TargetFault}
 use Rattle.md_copy.specs.Storing.{FailsToRecordTarget, EndsAtOther, StoresFirst}
 
 -- A recovering target is to say no more that it has what it lacks: what it lacks is filled, and a kernel may go on where the rebuild

@@ -12,8 +12,8 @@ use Rattle.md_array.specs.Steps.EnrolEvents.{FailsAtSuper}
 use Rattle.md_array.specs.InTurn.{AllOf, HaltsAt, Requests}
 use Rattle.md_metadata.specs.Going.{LeadsBy}
 use Rattle.md_metadata.specs.Storing.{IsFailureOf, IsNoFailure, IsStoring}
-use Rattle.md_copy.specs.declared.table.fault.RebuildFault.{RebuildFault}
-use Rattle.md_copy.specs.declared.table.fault.RebuildFault.TheVariants.{Halted, NotSpare, Dirty, InFlight, LogFull, NoMemory, TargetFault, MetadataFault, EventsFull}
+use Rattle.md_copy.specs.declared.tables.fault.RebuildFault.{RebuildFault}
+use Rattle.md_copy.specs.declared.tables.fault.RebuildFault.TheVariants.{Halted, NotSpare, Dirty, InFlight, LogFull, NoMemory, TargetFault, MetadataFault, EventsFull}
 use Rattle.md_copy.specs.Leaving.{RecordsAtEnd}
 use Rattle.md_copy.specs.Listing.{IsNoting, IsStoringList}
 use Rattle.md_copy.specs.Rebuilding.{LosesTarget, RefusesRebuild}

@@ -9,8 +9,8 @@ use Rattle.md_array.specs.InTurn.{HaltsAt, Requests}
 use Rattle.md_array.specs.Steps.RecordTarget.{LeavesUnrecorded}
 use Rattle.md_metadata.specs.Going.{GoesOn, only_others}
 use Rattle.md_metadata.specs.Storing.{AllRecorded, HasAllMarks, IsFailureOf, IsMarking, IsRecording, IsStoring, LosesStoring, Stores}
-use Rattle.md_copy.specs.declared.table.fault.RebuildFault.{RebuildFault}
-use Rattle.md_copy.specs.declared.table.fault.RebuildFault.TheVariants.{MetadataFault, TargetFault}
+use Rattle.md_copy.specs.declared.tables.fault.RebuildFault.{RebuildFault}
+use Rattle.md_copy.specs.declared.tables.fault.RebuildFault.TheVariants.{MetadataFault, TargetFault}
 
 -- First each member in sync has all marks of memory stored, and then each superblock that is due. Nothing failed.
 pub record StoresFirst (old new : MirrorView) : Type 0 where

@@ -15,8 +15,8 @@ use Rattle.md_array.specs.Steps.Checkpoint.{Checkpoints, FailsToCheckpoint}
 use Rattle.md_copy.specs.Filling.{CopiesChunks, CountsFailed, FailsOnWrite, HaveFailedOnlyThere, HaveFailedThere}
 use Rattle.md_copy.specs.PassLaws.Listed.{ListsFailed}
 use Rattle.md_copy.specs.RebuildSources.{IsSlotFor}
-use Rattle.md_copy.specs.declared.table.fault.RebuildFault.{RebuildFault}
-use Rattle.md_copy.specs.declared.table.fault.RebuildFault.TheVariants.{NoMemory, TargetFault}
+use Rattle.md_copy.specs.declared.tables.fault.RebuildFault.{RebuildFault}
+use Rattle.md_copy.specs.declared.tables.fault.RebuildFault.TheVariants.{NoMemory, TargetFault}
 use Rattle.md_copy.specs.Table.Sources.{LacksChunk}
 
 -- How many rounds of a pass of so many make a stretch: 256 MiB of chunks, 16 rounds, or a 64th of the pass, whichever is the most.

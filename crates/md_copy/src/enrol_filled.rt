@@ -12,7 +12,7 @@ ghost use Rattle.md_copy.specs.Ready.{IsReadyToCopy};
 
 use crate::orphans::Orphans;
 use crate::rebuilt::Rebuilt;
-use crate::table::{RebuildFault, keep_missing, marks_of, uncopied_chunks};
+use crate::tables::{RebuildFault, keep_missing, marks_of, uncopied_chunks};
 use md_array::{EnrolFault, Mirror};
 use md_bitmap::Marks;
 use md_device::Device;

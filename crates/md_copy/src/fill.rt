@@ -12,7 +12,7 @@ ghost use Rattle.md_copy.specs.RebuildSources.{AreSources, IsPlanOf};
 ghost use Rattle.md_copy.specs.Told.{IsToldOfSlots};
 
 use crate::one_pass::copy_beside;
-use crate::table::RebuildFault;
+use crate::tables::RebuildFault;
 use md_array::Mirror;
 use md_bitmap::Marks;
 use md_cert::Plan;

@@ -2,7 +2,7 @@
 ghost use Rattle.std.specs.Prelude.{ℕ};
 ghost use Rattle.md_state.specs.View.{MirrorView};
 ghost use Rattle.md_array.specs.Consistency.{IsConsistent};
-ghost use Rattle.md_copy.specs.declared.table.fault.RebuildFault.{RebuildFault};
+ghost use Rattle.md_copy.specs.declared.tables.fault.RebuildFault.{RebuildFault};
 ghost use Rattle.md_copy.specs.declared.rebuilt.Rebuilt.{Rebuilt};
 ghost use Rattle.md_copy.specs.Readying.{FailsAdmission};
 ghost use Rattle.md_copy.specs.RebuildEvents.{FailsCheckpoint, LeadsUnadmitted, LeadsUnfinished, LeadsUnrecorded, RebuildLeads};

@@ -5,7 +5,7 @@ ghost use Rattle.md_array.specs.Consistency.{IsConsistent};
 ghost use Rattle.md_bitmap.specs.Marks.{is_set};
 ghost use Rattle.md_copy.specs.Leaving.{RecordsAtEnd, LeavesSo, MayRecordAtEnd};
 
-use crate::table::RebuildFault;
+use crate::tables::RebuildFault;
 use md_array::Mirror;
 use md_bitmap::Marks;
 use md_device::Device;

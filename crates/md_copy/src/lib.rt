@@ -4,7 +4,8 @@
 //! rebuild that is done is `HasRebuilt` in `specs/Rebuilt.antt`.
 //!
 //! `pass_laws/`: the passes of a rebuild, as plans one after another.
-//! `table/`: what a rebuild would copy, and why a member is not rebuilt, before anything is copied.
+//! `tables/`: what a rebuild would copy, and why a member is not rebuilt, before anything is copied.
+//! `salvaging/`: which sectors are listed where no member in sync gives some.
 //!
 //! ```
 //! let rebuilt = rebuild(rt, alloc, &mut mirror, 1, &gate)?;
@@ -23,15 +24,17 @@ mod pass_laws;
 mod passes;
 mod readying;
 mod rebuilt;
+mod salvaging;
 mod sources;
 mod storing;
 mod stretches;
-mod table;
+mod tables;
 mod until_done;
 mod whole_rebuild;
 
 pub use md_pass::Gate;
 pub use pass_laws::{copies_add, lists_add, passes_end, passes_go_on};
 pub use rebuilt::Rebuilt;
-pub use table::{RebuildFault, check_rebuild, keep_missing, marks_of, table, uncopied_chunks};
+pub use salvaging::sectors_to_list;
+pub use tables::{RebuildFault, check_rebuild, keep_missing, marks_of, table, uncopied_chunks};
 pub use whole_rebuild::rebuild;

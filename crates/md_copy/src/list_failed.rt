@@ -15,7 +15,7 @@ ghost use Rattle.md_copy.specs.Table.Sources.{IsInSyncAs};
 ghost use Rattle.md_copy.specs.Listing.{HasFailedSlot, HaveRoom, NotesLists, RefusesSlot, EndsNoting, EndsStoringLists, StoresListIf, StoresLists};
 
 use crate::sources::member_in;
-use crate::table::RebuildFault;
+use crate::tables::RebuildFault;
 use md_array::{Mirror, NoteFault};
 use md_assembly::MemberState;
 use md_bitmap::Marks;

@@ -7,7 +7,7 @@ ghost use Rattle.md_pass.specs.Copied.{failed_slots};
 ghost use Rattle.md_copy.specs.Table.Sources.{HasSources};
 ghost use Rattle.md_copy.specs.Preparing.{IsNoMemory};
 
-use crate::table::RebuildFault;
+use crate::tables::RebuildFault;
 use md_array::Mirror;
 use md_bitmap::Marks;
 use md_cert::{Plan, Table};

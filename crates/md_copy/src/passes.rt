@@ -17,7 +17,7 @@ ghost use Rattle.md_copy.specs.Told.{IsToldOfPlans, IsToldOfSlots};
 use crate::list_failed::{list_failed, store_lists};
 use crate::next_table::table_of_failed;
 use crate::stretches::{copy_stretches, stretch_rounds};
-use crate::table::{RebuildFault, table};
+use crate::tables::{RebuildFault, table};
 use md_array::Mirror;
 use md_bitmap::Marks;
 use md_cert::{Plan, Slot, Table};

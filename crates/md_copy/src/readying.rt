@@ -12,7 +12,7 @@ ghost use Rattle.md_copy.specs.Table.Orphans.{IsSetOf};
 ghost use Rattle.md_copy.specs.Readying.{LowersTarget, Readies, RefusesAdmission, RefusesToReady};
 
 use crate::storing::store_first;
-use crate::table::RebuildFault;
+use crate::tables::RebuildFault;
 use md_array::{AdmitFault, Mirror};
 use md_bitmap::Marks;
 use md_device::Device;

@@ -10,7 +10,7 @@ ghost use Rattle.md_metadata.specs.Going.{HaltsAfter, only_others};
 ghost use Rattle.md_metadata.specs.Storing.{IsStoring, RecordsAll, RecordsAt, StoringFails};
 ghost use Rattle.md_copy.specs.Storing.{StoresFirst, StoringEnds};
 
-use crate::table::RebuildFault;
+use crate::tables::RebuildFault;
 use md_array::Mirror;
 use md_device::Device;
 use md_metadata::{PartFault, store_all_marks, store_record, store_records};

@@ -8,7 +8,7 @@ ghost use Rattle.md_copy.specs.Told.{IsToldOfSlots};
 
 use crate::fill::fill;
 use crate::sources::sources_of;
-use crate::table::RebuildFault;
+use crate::tables::RebuildFault;
 use md_array::{Mirror, TargetFault};
 use md_bitmap::{Chunks, Marks};
 use md_cert::{Plan, Slot, Slots};

@@ -18,7 +18,7 @@ use crate::orphans::{Orphans, no_orphans};
 use crate::passes::copy_passes;
 use crate::readying::{lower_target, make_ready};
 use crate::rebuilt::Rebuilt;
-use crate::table::{RebuildFault, check_rebuild};
+use crate::tables::{RebuildFault, check_rebuild};
 use crate::until_done::store_until_done;
 use md_array::Mirror;
 use md_bitmap::Marks;

@@ -35,8 +35,8 @@ use Rattle.md_array.proofs.Rebuilding.TargetLeft.{left_happens}
 use Rattle.md_array.proofs.StepLemmas.FailedParts.{halted_then}
 use Rattle.md_array.proofs.StepLemmas.Turns.{all_on}
 use Rattle.md_metadata.specs.Storing.{FailsAtLast, IsFailureOf}
-use Rattle.md_copy.specs.declared.table.fault.RebuildFault.{RebuildFault}
-use Rattle.md_copy.specs.declared.table.fault.RebuildFault.TheVariants.{Halted, NotSpare, Dirty, InFlight, LogFull, NoMemory, TargetFault, MetadataFault, EventsFull}
+use Rattle.md_copy.specs.declared.tables.fault.RebuildFault.{RebuildFault}
+use Rattle.md_copy.specs.declared.tables.fault.RebuildFault.TheVariants.{Halted, NotSpare, Dirty, InFlight, LogFull, NoMemory, TargetFault, MetadataFault, EventsFull}
 use Rattle.md_copy.specs.Table.Sources.{missing_chunks}
 use Rattle.md_copy.specs.Filling.{IsFilling}
 use Rattle.md_state.specs.Steps.Checkpoint.{checked}

@@ -39,8 +39,8 @@ use Rattle.md_metadata.proofs.Going.{GoesUnfailing, halts_as, stops_as, unfailin
 use Rattle.md_metadata.proofs.Steps.{is_now}
 use Rattle.md_pass.specs.Copied.{failed_slots, is_failed_slot}
 use Rattle.md_copy.specs.PassLaws.Listed.{IsOfFailed, ListsFailed, ListsOwn}
-use Rattle.md_copy.specs.declared.table.fault.RebuildFault.{RebuildFault}
-use Rattle.md_copy.specs.declared.table.fault.RebuildFault.TheVariants.{MetadataFault}
+use Rattle.md_copy.specs.declared.tables.fault.RebuildFault.{RebuildFault}
+use Rattle.md_copy.specs.declared.tables.fault.RebuildFault.TheVariants.{MetadataFault}
 use Rattle.md_copy.proofs.TableLemmas.Served.{in_sync_as}
 use Rattle.md_copy.specs.Listing.{AreListsOf, FitsLog, HasFailedSlot, HasListOn, HaveRoom, IsListOn, IsStoringList, KeepsListAndData, ListsAll, NotesLists, EndsAtList, EndsStoringLists, StoresIfFailed, StoresListIf, StoresLists, StoresOwn, WritesMetadata, all_list_events}
 use Rattle.md_copy.proofs.Listings.ListingKeeps.{KeepsPlaces, LeavesBeside, apart_of, listing_fails, listing_fields, listing_halt_fails, listing_halts, listing_leaves, writes_one, writes_same, writes_then}

@@ -27,8 +27,8 @@ use Rattle.md_metadata.proofs.Steps.{same_but}
 use Rattle.md_pass.specs.Copied.{failed_slots, is_failed_slot}
 use Rattle.md_copy.specs.PassLaws.Listed.{IsSourceInRole}
 use Rattle.md_copy.proofs.PassLemmas.Listing.{lists_add}
-use Rattle.md_copy.specs.declared.table.fault.RebuildFault.{RebuildFault}
-use Rattle.md_copy.specs.declared.table.fault.RebuildFault.TheVariants.{LogFull, NoMemory}
+use Rattle.md_copy.specs.declared.tables.fault.RebuildFault.{RebuildFault}
+use Rattle.md_copy.specs.declared.tables.fault.RebuildFault.TheVariants.{LogFull, NoMemory}
 use Rattle.md_copy.proofs.TableLemmas.Served.{in_sync_as}
 use Rattle.md_copy.specs.Listing.{ChangesListAlone, FitsLog, HaveRoom, IsNoting, NotesLists, RefusesSlot, EndsNoting, WhyNotNoted}
 use Rattle.md_copy.proofs.Plans.SourcesChosen.{takes_as}

@@ -29,8 +29,8 @@ use Rattle.md_state.specs.Members.{IsMember}
 use Rattle.md_state.specs.View.{ArrayView, MirrorView}
 use Rattle.md_array.specs.Consistency.{IsConsistent}
 use Rattle.md_array.proofs.StepLemmas.FailedParts.{halted_array}
-use Rattle.md_copy.specs.declared.table.fault.RebuildFault.{RebuildFault}
-use Rattle.md_copy.specs.declared.table.fault.RebuildFault.TheVariants.{Halted, NotSpare, Dirty, InFlight, LogFull, NoMemory, TargetFault, MetadataFault, EventsFull}
+use Rattle.md_copy.specs.declared.tables.fault.RebuildFault.{RebuildFault}
+use Rattle.md_copy.specs.declared.tables.fault.RebuildFault.TheVariants.{Halted, NotSpare, Dirty, InFlight, LogFull, NoMemory, TargetFault, MetadataFault, EventsFull}
 use Rattle.md_copy.specs.Table.Beginning.{RefusesTable}
 use Rattle.md_copy.specs.Table.Orphans.{IsSetOf}
 use Rattle.md_copy.specs.Table.Sources.{LacksChunk, IsTableOf, missing_chunks}

@@ -24,8 +24,8 @@ use Rattle.md_state.specs.Missing.{is_missing}
 use Rattle.md_state.specs.View.{ArrayView, MirrorView}
 use Rattle.md_array.specs.Steps.Checkpoint.{Checkpoints, FailsToCheckpoint, MayCheckpoint}
 use Rattle.md_array.specs.Consistency.{IsConsistent}
-use Rattle.md_copy.specs.declared.table.fault.RebuildFault.{RebuildFault}
-use Rattle.md_copy.specs.declared.table.fault.RebuildFault.TheVariants.{Halted, NotSpare, Dirty, InFlight, LogFull, NoMemory, TargetFault, MetadataFault, EventsFull}
+use Rattle.md_copy.specs.declared.tables.fault.RebuildFault.{RebuildFault}
+use Rattle.md_copy.specs.declared.tables.fault.RebuildFault.TheVariants.{Halted, NotSpare, Dirty, InFlight, LogFull, NoMemory, TargetFault, MetadataFault, EventsFull}
 use Rattle.md_copy.specs.Table.Sources.{LacksChunk}
 use Rattle.md_copy.specs.Filling.{BreaksPass, FailsOnWrite, FillsPass}
 use Rattle.md_copy.specs.Held.{AreHeld}

@@ -6,7 +6,7 @@ use Rattle.std.proofs.lemmas.List.Elements.{All-contains, Contains-get_or}
 use Rattle.md_bitmap.specs.Marks.{Bitmap}
 use Rattle.md_cert.specs.declared.slots.Slot.{Slot}
 use Rattle.md_state.specs.View.{MirrorView}
-use Rattle.md_copy.specs.declared.table.fault.RebuildFault.{RebuildFault}
+use Rattle.md_copy.specs.declared.tables.fault.RebuildFault.{RebuildFault}
 use Rattle.md_copy.specs.Held.{AreHeld}
 use Rattle.md_copy.specs.Ready.{IsReadyToCopy}
 use Rattle.md_copy.specs.Stretches.{AreLeft, AreRecorded, FailsStretch, FailsWithin, RecordsStretch, RecordsStretches, is_after, is_before, slots_after, slots_before}

@@ -13,8 +13,8 @@ use Rattle.md_state.specs.View.{MirrorView}
 use Rattle.md_array.specs.Steps.Admit.{Admits}
 use Rattle.md_array.specs.Consistency.{IsConsistent}
 use Rattle.md_array.proofs.Rebuilding.InBetween.{recovers_rebuilt}
-use Rattle.md_copy.specs.declared.table.fault.RebuildFault.{RebuildFault}
-use Rattle.md_copy.specs.declared.table.fault.RebuildFault.TheVariants.{Halted, NotSpare, Dirty, InFlight, LogFull, NoMemory, TargetFault, MetadataFault, EventsFull}
+use Rattle.md_copy.specs.declared.tables.fault.RebuildFault.{RebuildFault}
+use Rattle.md_copy.specs.declared.tables.fault.RebuildFault.TheVariants.{Halted, NotSpare, Dirty, InFlight, LogFull, NoMemory, TargetFault, MetadataFault, EventsFull}
 use Rattle.md_copy.specs.Table.Beginning.{MayBeginRebuild, rises}
 use Rattle.md_copy.specs.Table.Targets.{IsTarget}
 use Rattle.md_copy.specs.Ready.{MayRebuildOn}

@@ -19,7 +19,7 @@ use Rattle.md_array.specs.InTurn.{HaltsAt}
 use Rattle.md_array.specs.Steps.Record.{super_write}
 use Rattle.md_array.proofs.StepLemmas.FailedParts.{halted_then}
 use Rattle.md_metadata.specs.Storing.{IsFailureOf, IsStoring}
-use Rattle.md_copy.specs.declared.table.fault.RebuildFault.TheVariants.{MetadataFault}
+use Rattle.md_copy.specs.declared.tables.fault.RebuildFault.TheVariants.{MetadataFault}
 use Rattle.md_copy.specs.Refused.{KeepsDataBut}
 use Rattle.md_state.specs.DeviceChanges.{StaysHonest}
 use Rattle.md_state.proofs.Stays.{stays_same}

@@ -32,7 +32,7 @@ use Rattle.md_array.proofs.StepLemmas.FailedParts.{halted_array, halted_then}
 use Rattle.md_super.specs.declared.superblock.Superblock.{Superblock}
 use Rattle.md_metadata.specs.Storing.{IsStoring, StaysReady, Stores}
 use Rattle.md_copy.specs.Table.Beginning.{MayBeginRebuild}
-use Rattle.md_copy.specs.declared.table.fault.RebuildFault.TheVariants.{MetadataFault}
+use Rattle.md_copy.specs.declared.tables.fault.RebuildFault.TheVariants.{MetadataFault}
 use Rattle.md_copy.specs.Leaving.{RecordsAtEnd}
 use Rattle.md_copy.specs.Listing.{HaltsAtList, EndsAtList}
 use Rattle.md_copy.specs.Readying.{AdmitsAfter, FailsAdmission, LowersTarget}

@@ -29,8 +29,8 @@ use Rattle.md_metadata.proofs.Steps.{record_stored}
 use Rattle.md_metadata.proofs.StoredMembers.{last_on}
 use Rattle.md_metadata.proofs.StoredRecords.{other_due, other_or_stops}
 use Rattle.md_metadata.proofs.StoredSectors.{all_marks_last}
-use Rattle.md_copy.specs.declared.table.fault.RebuildFault.{RebuildFault}
-use Rattle.md_copy.specs.declared.table.fault.RebuildFault.TheVariants.{Halted, NotSpare, Dirty, InFlight, LogFull, NoMemory, TargetFault, MetadataFault, EventsFull}
+use Rattle.md_copy.specs.declared.tables.fault.RebuildFault.{RebuildFault}
+use Rattle.md_copy.specs.declared.tables.fault.RebuildFault.TheVariants.{Halted, NotSpare, Dirty, InFlight, LogFull, NoMemory, TargetFault, MetadataFault, EventsFull}
 use Rattle.md_copy.specs.Storing.{FailsToRecordTarget, EndsAtOther, StoresFirst, StoringEnds}
 use Rattle.md_copy.proofs.Fills.LentBack.{rebuilt_out}
 

@@ -1,5 +1,5 @@
 use Rattle.std.proofs.Common.{rules, ◌≡◌, Err}
-use Rattle.md_copy.specs.declared.table.fault.RebuildFault.TheVariants.{NoMemory}
+use Rattle.md_copy.specs.declared.tables.fault.RebuildFault.TheVariants.{NoMemory}
 use Rattle.md_commands.proofs.planning.plan_target.Goals as goal
 use Rattle.md_assembly.proofs.Indices.{got_within}
 
