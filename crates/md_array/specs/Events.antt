@@ -141,8 +141,8 @@ KeepsLists e w w' = ⊤
 
 -- By the event the mirror goes from its world with these requests in flight to that with those. A content that the members in
 -- sync held before it, they hold after it, changed as the event says; and who was written of a request in flight has its bytes.
--- An opening reads what is kept, if it did before, but of whom it may misread (`misread_after`). The devices do what they answer still, and one is written at most: what a
--- crash within that leaves is of its write (`crashes_at_steps`).
+-- An opening reads what is kept, if it did before, but of whom it may misread (`misread_after`). The devices do what they answer
+-- still, and one is written at most: what a crash within that leaves is of its write (`crashes_at_steps`).
 pub record Does (old : MirrorView) (before : ℕ → Option Request) (e : Event) (new : MirrorView) (after : ℕ → Option Request) : Type 0 where
   pub honest : AreHonest new.disks
   pub writes : WritesOnce e old.disks new.disks

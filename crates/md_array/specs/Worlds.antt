@@ -79,7 +79,7 @@ reads_log_on own content = list_bit own (block_on content) (super_in (block_on c
 
 -- A sector of a device is listed in its log. Whether the log is read goes by the bit on the device: a log is stored before the
 -- superblock that tells of it, and in between an opening reads none. The shift is the one that is kept, by which the log was read
--- or was stored since. Of a crash right after a log of another shift was replaced nothing is said.
+-- or was stored since. Between a log that had another shift and its superblock an opening reads something else (`misread_after`).
 unfoldable pub is_listed : Superblock → List ℕ → ℕ → Bool
 is_listed own content sector = reads_log_on own content && is_logged content (sector_from_super own.bblog_offset) own.bblog_size own.bblog_shift sector
 

@@ -34,3 +34,5 @@ pub mod Returned
 pub mod SureRuns
 -- A mirror of one member that is opened, has a run of two events and is opened again has a life.
 pub mod SmallLife
+-- As long as no log is stored, an opening misreads no more members than those that are spoiled.
+pub mod Unlogged

@@ -3,6 +3,8 @@ pub mod HalfOpened
 -- Lists of events of a mirror, from its opening on: each is done by a call, as the calls' contracts say (`Does`). Between them
 -- devices may be read, and reads may fail: that is no event, and the world stays.
 pub mod Runs
+-- As long as no log is stored, an opening misreads no more members than those that are spoiled.
+pub mod Unlogged
 -- What is done by a call that is a list of events.
 pub mod WholeCalls
 -- Whole calls that read devices: the events that such a call does, one after another, with reads before each and after the

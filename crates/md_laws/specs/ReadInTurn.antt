@@ -21,14 +21,13 @@ ReadInTurn previous old before (e ∷ es) Then =
 abbrev pub LeadsReading : Option Event → MirrorView → Requests → List Event → MirrorView → Requests → Type 0
 LeadsReading previous old before es new after = ReadInTurn previous old before es (λ m r. (m ≡ new) × (r ≡ after))
 
--- none of which something is asked: no write of a superblock that failed, but for one that spoils its member, no enrolment, no
--- checkpoint, and no log that is stored
+-- none of which something is asked: no write of a superblock that failed, but for one that spoils its member, no enrolment, and no
+-- checkpoint
 abbrev pub IsNoFailedRecord : Event → Type 0
 IsNoFailedRecord (Event.WriteFails k MemberPart.Superblock) = ⊥
 IsNoFailedRecord (Event.RecordTargetFails k) = ⊥
 IsNoFailedRecord (Event.Enrol k role listed) = ⊥
 IsNoFailedRecord (Event.Checkpoint k sure listed) = ⊥
-IsNoFailedRecord (Event.StoreLog k listed) = ⊥
 IsNoFailedRecord e = Unit {0}
 
 -- From any moment of a mirror such a call is a run, and ends where the call says.

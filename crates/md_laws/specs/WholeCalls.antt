@@ -138,7 +138,7 @@ NoteBadIsACall =
     → old.array.resynced ≡ true → AreSectorsOf old more → AreBelowListLimit k more old
     → (previous : Option Event) (requests : Requests) → AreInFlight old.array requests → Leads previous old requests (Event.NoteBad k more ∷ []) new requests
 
--- A log is stored by one event, where it was read without a shift or stored since.
+-- A log is stored by one event.
 abbrev pub StoreLogIsACall : Type 0
 StoreLogIsACall =
     (k : ℕ) (old new : MirrorView) → IsConsistent old → (r : StoresLog k old new) → IsCanonical r.member.bad

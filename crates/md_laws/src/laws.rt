@@ -19,6 +19,7 @@ ghost use Rattle.md_laws.specs.Lives.{AtEachMoment, ContentGoesAlongTold, FindsA
 ghost use Rattle.md_laws.specs.Recovering.{ContentGoesAlong, KeepsRecovering, ListsWhereKnown, MirrorKeepsSure, OffsetsAreKept, SaysNoMoreWhenOpened, SaysNoMoreWhereKnown, SaysNoMoreWithoutList};
 ghost use Rattle.md_laws.specs.Returning.{StartsAgain};
 ghost use Rattle.md_laws.specs.Runs.{HasContent};
+ghost use Rattle.md_laws.specs.Unlogged.{StaysUnlogged};
 ghost use Rattle.md_laws.specs.Spoiled.{CrashesAsSpoiled, CrashesAtEnrolAsSpoiled, CrashesAtFailedEnrolAsSpoiled};
 ghost use Rattle.md_laws.specs.ReadAfterCrashes.{ReadsAtAdd, ReadsAtReAdd, ReadsAtTarget};
 ghost use Rattle.md_laws.specs.CrashesWithin.{CrashesAsFailed, CrashesAsFilled, CrashesAsPrepared, CrashesAsTried, CrashesAtAdd, CrashesAtEnrol, CrashesAtEvents, CrashesAtFailedAdd, CrashesAtFailedEnrol, CrashesAtFailedReAdd, CrashesAtFailure, CrashesAtReAdd, CrashesAtRefusedAdd, CrashesAtRefusedReAdd, CrashesAtRemoval, CrashesAtSector, CrashesAtWrite, CrashesInMemory, CrashesUndivided};
@@ -63,7 +64,8 @@ pub fn opening()
 /// A member that is rebuilt is spoiled where `enrol`, `admit` or `checkpoint` could not write its superblock, whatever stands there then, or
 /// where a crash came within that write (`SpoilTarget`, `crashes_at_steps`). Its mirror goes on. It is spoiled until its superblock is stored, and
 /// until then no opening after a crash may be of its device (`AreFoundAgain`). Nor may one be of a member in sync whose log had a shift and was
-/// stored, until its superblock is stored: an opening would read the new log by the shift before (`misread_after`).
+/// stored, until its superblock is stored, also where that failed since: an opening would read the new log by the shift before
+/// (`misread_after`).
 ///
 /// An opening after a crash is of devices that were left, in any order, some of them missing (`IsReopened`). Beside
 /// them may be further ones, which the opening before left out (`IsFurther`): the mirror that is opened does not have
@@ -78,10 +80,10 @@ pub fn every_run()
     ensures covered { AtEachMoment IsCovered }
 
     // A crash leaves devices of which an opening finds only members in sync that were so, whose marks cover
-    // what differs; and all of these, where each has recorded all but the last change.
+    // what differs, but for one that it misreads; and all of these, where each has recorded all but the last change.
     ensures at_crash { AtEachMoment IsSafeAtCrash }
 
-    // No member in sync is one whose superblock was spoiled, so that each of them may be there.
+    // No member in sync is one whose superblock was spoiled: each of them may be there, unless it is misread.
     ensures sound { AtEachMoment IsSound }
 
     // Where a list in memory has a sector that its device does not list yet, its member agrees with the others in sync all the same,
@@ -119,6 +121,12 @@ pub fn every_run()
     ensures read_as_kept { IsReadAsKeptInLives }
     ensures reads_recorded { ReadsRecorded }
     ensures keeps_geometry { KeepsGeometry }
+{}
+
+/// As long as no log is stored since an opening, an opening misreads the members that are spoiled, and no others: so
+/// none that is in sync, due or not (`every_run`, clause `sound`).
+pub fn unlogged()
+    ensures stays { StaysUnlogged }
 {}
 
 /// When the superblock of the next opening is fit: it is enough that one of its devices is as new as the opening

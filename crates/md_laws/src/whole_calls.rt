@@ -62,8 +62,7 @@ pub fn listing_calls()
 {}
 
 /// A call that reads devices before its events and after the last (`LeadsReading`) is a run, too. It writes
-/// no superblock that fails unless its member is spoiled, enrols no member, and stores no checkpoint and no
-/// log.
+/// no superblock that fails unless its member is spoiled, enrols no member, and stores no checkpoint.
 pub fn every_reading_call()
     ensures { ReadingCallsAreRuns }
 {}

@@ -49,7 +49,6 @@ whole_of (e ∷ es) previous old before Then turn all = (one e all.0, whole_of e
     one (Event.RecordTargetFails k) of = absurd of
     one (Event.Enrol k role listed) of = absurd of
     one (Event.Checkpoint k offset listed) of = absurd of
-    one (Event.StoreLog k listed) of = absurd of
     one e of = tt
 
 pub unfailing_records : (es : List Event) → AllOf IsStoring es → AllOf IsNoFailure es → AllOf IsNoFailedRecord es

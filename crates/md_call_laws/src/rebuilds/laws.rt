@@ -37,7 +37,7 @@ pub fn rebuild_runs()
 /// What a crash at any moment within a rebuild leaves, is what a crash of a run leaves: so an opening finds of it what
 /// the laws over lives say. Until the superblock that brings the target into sync stands, the target is not in
 /// sync; where it stands, the enrolment is done. Where another superblock of the target stands than before or after
-/// a call, the target is spoiled, and that opening has to leave it out. So it has a source whose log had a shift, if the
+/// a call, the target is spoiled, and that opening has to leave it out. It has to leave out a source too whose log had a shift, if the
 /// crash came between that log and its superblock (`misread_after` of `md_array`). A source whose log had no
 /// shift is misread only if it is spoiled, where that held before.
 pub fn rebuild_crashes()

@@ -40,7 +40,6 @@ left_whole (Event.WriteFails k MemberPart.Superblock) old new is = absurd is
 left_whole (Event.RecordTargetFails k) old new is = absurd is
 left_whole (Event.Enrol k role listed) old new is = absurd is
 left_whole (Event.Checkpoint k sure listed) old new is = absurd is
-left_whole (Event.StoreLog k listed) old new is = absurd is
 left_whole e old new is = tt
 
 -- a call's events go on with a mirror's run

@@ -1,0 +1,5 @@
+use Rattle.md_laws.proofs.Runs.Unlogged.{stays_unlogged}
+use Rattle.md_laws.proofs.laws.unlogged.Goals as goal
+
+pub returns : goal.returns
+returns c = record { stays = stays_unlogged }
