@@ -125,7 +125,7 @@ pub fn every_run()
 
 /// As long as no log is stored since an opening, an opening misreads the members that are spoiled, and no others: so
 /// none that is in sync, due or not (`every_run`, clause `sound`).
-pub fn unlogged()
+pub fn run_without_logs()
     ensures stays { StaysUnlogged }
 {}
 
