@@ -18,7 +18,7 @@ use Rattle.md_array.proofs.StepLemmas.Turns.{all_on, all_such, turn_on, turn_the
 use Rattle.md_metadata.specs.declared.fault.PartFault.{PartFault}
 use Rattle.md_metadata.specs.declared.fault.PartFault.TheVariants.{Halted, MemberFailed}
 use Rattle.md_metadata.specs.Going.{GoesOn, HaltsAfter, IsFaulty, IsSameArray, LosesSomeMember, StepsBy, only_others, recorded_count}
-use Rattle.md_metadata.specs.Storing.{AllStayReady, FailsAtLast, FailsInSync, HaltsAtWrite, HaltsStoring, IsFailureOf, IsMarking, IsNoFailure, IsRecording, IsSector, IsStoring, IsToldAs, IsUpToDate, LosesStoring, SectorFails, StaysReady, Stores, StoresAll, StoringFails}
+use Rattle.md_metadata.specs.Storing.{AllStayReady, FailsAtLast, FailsInSync, HaltsAtWrite, HaltsStoring, IsFailureOf, IsMarking, IsNoFailure, IsRecording, IsSector, IsStoring, IsToldAs, IsUpToDate, LosesStoring, SectorFails, StaysReady, Stores, StoringFails}
 
 pub same_refl : (a : ArrayView) → IsSameArray a a
 same_refl a = record { chunks = refl; marks = refl; as_many = refl; requests = refl; resynced = refl; fewer = omega arith }
@@ -201,9 +201,6 @@ module _ (Of Such : Event → Type 0) (widen : (e : Event) → Of e → Such e) 
     pub stores_as : Stores Of old new → Stores Such old new
     unfolding goes_as
     stores_as g = record { goes = goes_as only_others only_others old new g.goes; unfailing = g.unfailing; ready = g.ready }
-
-    pub all_as : (Done : MemberView → Type 0) → StoresAll Of Done old new → StoresAll Such Done old new
-    all_as Done g = record { stores = stores_as g.stores; done = g.done }
 
     pub stops_as : (fault : PartFault) → StoringFails Of old new fault → StoringFails Such old new fault
     unfolding goes_as

@@ -11,6 +11,7 @@ use Rattle.md_inflight.specs.Requests.Pending.{PendingView}
 use Rattle.md_kept_members.specs.Members.{recorded_member}
 use Rattle.md_kept_members.specs.View.{MemberView}
 use Rattle.md_kept_members.specs.Members.{made_due}
+use Rattle.md_faults.specs.declared.step_fault.StoreFault.{StoreFault}
 use Rattle.md_faults.specs.declared.step_fault.StoreFault.TheVariants.{Halted, NotActive, MemberFailed}
 use Rattle.md_state.specs.Members.{IsMember}
 use Rattle.md_state.specs.Steps.Rise.{Fails, made_faulty}
@@ -20,7 +21,7 @@ use Rattle.md_state.specs.Steps.StoreMarks.{FailsToStoreMarks, RefusesMarkSector
 use Rattle.md_state.specs.Trying.{RefusesHalted}
 use Rattle.md_state.specs.Steps.WriteMember.{IsNotDue}
 use Rattle.md_array.specs.Consistency.{IsConsistent}
-use Rattle.md_array.specs.Events.{Does, Happens, HappensIfOldNewOrNone}
+use Rattle.md_array.specs.Events.{Does, Happens, HappensIfOldNewOrNone, IfStoringFailed}
 use Rattle.md_array.specs.InTurn.{Did, IsInOrder, IsSectorDue, LeftWhole, Requests}
 use Rattle.md_array.specs.Steps.Record.{FailsToRecord, Records, RefusesRecord}
 use Rattle.md_array.specs.Worlds.{AreHonest}
@@ -28,6 +29,7 @@ use Rattle.md_array.proofs.General.Replaced.{of_set}
 use Rattle.md_array.proofs.General.Indices.{at_set_same}
 use Rattle.md_array.proofs.Worlds.States.{in_sync_recorded}
 use Rattle.md_metadata.specs.declared.fault.PartFault.TheVariants as part
+use Rattle.md_metadata.specs.Faults.{of_store}
 use Rattle.md_metadata.specs.Going.{IsFaulty, IsSameArray, LosesSomeMember, StepsBy, only_others, recorded_count}
 use Rattle.md_metadata.specs.Storing.{AllStayReady, HaltsRecordingOn, HaltsStoring, IsRecording, IsSector, IsToldAs, RecordingFails, RecordsOn, SectorFails, StoresOn}
 use Rattle.md_metadata.proofs.Counts.{count_map, set_alike, set_fewer}
@@ -205,7 +207,7 @@ module _ (old new : MirrorView) (k : ℕ) (sound : IsConsistent new) (pending : 
   record_in_use : (f : FailsToRecord k old new) → is_recorded f.fails.array.member.state ≡ true
   record_in_use f = in_use_there old.array k f.member f.fails.array.member f.fails.array.at f.may.at f.may.active
 
-  pub record_fails : (j : ℕ) → RefusesRecord k old new (MemberFailed j) → HappensIfOldNewOrNone k old new → RecordingFails k old new (part.MemberFailed j)
+  record_fails : (j : ℕ) → RefusesRecord k old new (MemberFailed j) → HappensIfOldNewOrNone k old new → RecordingFails k old new (part.MemberFailed j)
   record_fails j r happens =
       let f = r.1 in (
         r.0,
@@ -219,9 +221,18 @@ module _ (old new : MirrorView) (k : ℕ) (sound : IsConsistent new) (pending : 
         },
       )
 
-  pub record_halts : old.array.halted ≡ false → IsConsistent old → RefusesRecord k old new Halted → HaltsRecordingOn k old new
+  record_halts : old.array.halted ≡ false → IsConsistent old → RefusesRecord k old new Halted → HaltsRecordingOn k old new
   record_halts run before (inl r) = never_halted old new run r
   record_halts run before (inr h) = record { stores = halts_first IsRecording (Event.WriteFails k MemberPart.Superblock) old new before tt (λ others. h) sound pending; at_once = h }
 
-pub record_refused : {P : Type 0} (old new : MirrorView) (k : ℕ) → ((m : MemberView) → IsMember old.array k m → is_recorded m.state ≡ true) → RefusesRecord k old new NotActive → P
+-- the member is kept up to date
+record_refused : {P : Type 0} (old new : MirrorView) (k : ℕ) → ((m : MemberView) → IsMember old.array k m → is_recorded m.state ≡ true) → RefusesRecord k old new NotActive → P
 record_refused old new k is r = absurd (let yes = is r.reason.member r.reason.at in let no = r.reason.inactive in cc)
+
+-- so a record that is refused is a failure of the part
+module _ (old new : MirrorView) (k : ℕ) (sound : IsConsistent new) (pending : (o : PendingView) → IsPending old.array o → IsPending new.array o) (run : old.array.halted ≡ false) (before : IsConsistent old)
+    (active : (m : MemberView) → IsMember old.array k m → is_recorded m.state ≡ true) where
+  pub record_stops : (fault : StoreFault) → RefusesRecord k old new fault → IfStoringFailed (HappensIfOldNewOrNone k old new) fault → RecordingFails k old new (of_store fault)
+  record_stops (MemberFailed j) r happens = record_fails old new k sound pending j r happens
+  record_stops Halted r happens = record_halts old new k sound pending run before r
+  record_stops NotActive r happens = record_refused old new k active r

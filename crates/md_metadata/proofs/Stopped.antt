@@ -20,12 +20,14 @@ use Rattle.md_state.specs.Steps.WriteMember.{IsNotDue}
 use Rattle.md_array.specs.Consistency.{IsConsistent}
 use Rattle.md_array.specs.Events.{CleanHappens}
 use Rattle.md_metadata.specs.declared.fault.PartFault.{PartFault}
+use Rattle.md_metadata.specs.declared.fault.PartFault.TheVariants.{Halted, MemberFailed}
+use Rattle.md_metadata.specs.Faults.{of_part}
 use Rattle.md_metadata.specs.Clearing.{ClearsAll, IsClearing, MayClearAll}
 use Rattle.md_metadata.specs.Going.{GoesOn, HaltsAfter, LeadsBy, only_others, recorded_count}
-use Rattle.md_metadata.specs.Storing.{HasAllMarks, IsMarking, IsRecording, IsStoring, LosesStoring, RecordsAll, StoresAll, StoringFails}
-use Rattle.md_metadata.specs.Stopping.{CleansIfActive, ClearsIfFull, FailsStop, HaltsStop, HasAllMarksIf, IsCleared, IsCleanedInMemory, IsCleaning, IsStopping, IsStoringIf, MayStopArray, CleansInMemory, StopsMirror, StoresCleaned, clears_marks, makes_clean}
+use Rattle.md_metadata.specs.Storing.{HasAllMarks, IsMarking, IsRecording, IsStoring, LosesStoring, RecordsAll, Stores, StoresAll, StoringFails}
+use Rattle.md_metadata.specs.Stopping.{CleansIfActive, ClearsIfFull, FailsStop, HaltsStop, HasAllMarksIf, IsCleared, IsCleanedInMemory, IsCleaning, IsStopping, IsStoringIf, MayStopArray, CleansInMemory, RefusesStop, StopsMirror, StoresCleaned, clears_marks, makes_clean}
 use Rattle.md_metadata.proofs.Counts.{count_map}
-use Rattle.md_metadata.proofs.Going.{all_as, marking_stores, recording_stores, stops_as, stops_on, stores_as, stores_on}
+use Rattle.md_metadata.proofs.Going.{marking_stores, recording_stores, stops_as, stops_on, stores_as, stores_on}
 use Rattle.md_metadata.proofs.Leading.{goes_leads, leads_as, leads_nowhere, leads_once, leads_then}
 use Rattle.md_metadata.proofs.StoredMembers.{IsLasting, last_on}
 use Rattle.md_metadata.proofs.StoredSectors.{all_marks_last}
@@ -214,7 +216,7 @@ module _ (old b c : MirrorView) (x : ClearsIfFull old b) (y : CleansIfActive b c
       recorded = s.recorded;
     }
 
-    pub stop_fails : (k : ℕ) → LosesStoring (IsStoringIf are_cleared) k c d → FailsStop k old d
+    stop_fails : (k : ℕ) → LosesStoring (IsStoringIf are_cleared) k c d → FailsStop k old d
     stop_fails k l = record {
       may = may;
       goes = whole d l.loses.goes;
@@ -228,8 +230,12 @@ module _ (old b c : MirrorView) (x : ClearsIfFull old b) (y : CleansIfActive b c
       resynced = l.loses.goes.array.resynced ∙ settled_resynced;
     }
 
-    pub stop_halts : HaltsAfter only_others only_others (IsStoringIf are_cleared) c d → HaltsStop old d
+    stop_halts : HaltsAfter only_others only_others (IsStoringIf are_cleared) c d → HaltsStop old d
     stop_halts h = record { may = may; cleaned = c; cleans = cleans; halts = h; goes = whole h.mid h.goes }
+
+    pub stop_refused : (fault : PartFault) → StoringFails (IsStoringIf are_cleared) c d fault → RefusesStop old d (of_part fault)
+    stop_refused Halted h = inr (stop_halts h.halts)
+    stop_refused (MemberFailed k) l = stop_fails k l
 
 -- ---- what is stored
 pub marks_if_last : (clears : Bool) (marks : Bitmap) → IsLasting marks (HasAllMarksIf clears marks)
@@ -239,21 +245,23 @@ module _ (clears : Bool) where
   abbrev Of : Event → Type 0
   Of = IsStoringIf clears
 
-  pub settled_stored : (a b c d : MirrorView) → StoresAll Of (HasAllMarksIf clears a.array.marks) a b → StoresAll Of IsNotDue b c → RecordsAll c d → StoresCleaned clears a d
-  settled_stored a b c d x y others =
-      let last = stores_as IsRecording Of (recording_if clears) c d others.stores in
-      record {
-        stores = stores_on Of a c d (stores_on Of a b c x.stores y.stores) last;
-        marks = λ is i m in_sync.
-            last_on Of (HasAllMarksIf clears a.array.marks) a b d (marks_if_last clears a.array.marks) x.stores.goes.array.marks x.done (stores_on Of b c d y.stores last) i m in_sync is;
-        recorded = others.done;
-      }
+  module _ (a b c d : MirrorView) (x : StoresAll Of (HasAllMarksIf clears a.array.marks) a b) (y : StoresAll IsRecording IsNotDue b c) where
+    recorded : Stores Of b c
+    recorded = stores_as IsRecording Of (recording_if clears) b c y.stores
 
-  pub settled_or_stops : (a b c d : MirrorView) → StoresAll Of (HasAllMarksIf clears a.array.marks) a b → StoresAll IsRecording IsNotDue b c
-      → {T : Type 0} (result : Result T PartFault) → MatchResult result (λ _. RecordsAll c d) (StoringFails IsRecording c d) → MatchResult result (λ _. StoresCleaned clears a d) (StoringFails Of a d)
-  settled_or_stops a b c d x y (Ok t) others = settled_stored a b c d x (all_as IsRecording Of (recording_if clears) b c IsNotDue y) others
-  settled_or_stops a b c d x y (Err fault) s =
-      stops_on Of a c d fault (stores_on Of a b c x.stores (stores_as IsRecording Of (recording_if clears) b c y.stores)) (stops_as IsRecording Of (recording_if clears) c d fault s)
+    pub settled_stored : RecordsAll c d → StoresCleaned clears a d
+    settled_stored others =
+        let last = stores_as IsRecording Of (recording_if clears) c d others.stores in
+        record {
+          stores = stores_on Of a c d (stores_on Of a b c x.stores recorded) last;
+          marks = λ is i m in_sync.
+              last_on Of (HasAllMarksIf clears a.array.marks) a b d (marks_if_last clears a.array.marks) x.stores.goes.array.marks x.done (stores_on Of b c d recorded last) i m in_sync is;
+          recorded = others.done;
+        }
+
+    -- the superblocks of the others are not all stored
+    pub others_stop : (fault : PartFault) → StoringFails IsRecording c d fault → StoringFails Of a d fault
+    others_stop fault s = stops_on Of a c d fault (stores_on Of a b c x.stores recorded) (stops_as IsRecording Of (recording_if clears) c d fault s)
 
   -- the superblocks are not all stored
   pub settled_stops : (a b c : MirrorView) (fault : PartFault) → StoresAll Of (HasAllMarksIf clears a.array.marks) a b → StoringFails IsRecording b c fault → StoringFails Of a c fault

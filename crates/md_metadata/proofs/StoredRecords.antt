@@ -1,7 +1,7 @@
 -- Records are stored in their turn.
 use Rattle.std.proofs.Common.{◌+◌, ◌≤◌, length, ◌≡◌, ℕ, ◌<◌, true, slice_get, Option, Some, refl, sym, subst, ap, ◌∙◌, arith, inr}
 use Rattle.std.proofs.lemmas.Option.{slice_get_within}
-use Rattle.std.specs.Prelude.{Result, Ok, Err, IfErr, MatchResult}
+use Rattle.std.specs.Prelude.{Result, Ok, Err, MatchResult}
 use Rattle.md_model.specs.Events.{Event, MemberPart}
 use Rattle.md_model.proofs.Puts.{by_same}
 use Rattle.md_assembly.specs.States.{is_in_sync, is_recorded}
@@ -56,30 +56,23 @@ module _ (k : ℕ) (old mid : MirrorView) (s : StoresOn k 0 old mid) where
     header : StepsBy only_others only_others IsRecording (Event.StoreMarks k 0) old mid
     header = step_as (IsSector k 0) IsRecording (first_records k) only_others only_others (Event.StoreMarks k 0) old mid s.step
 
-    recorded_after : RecordsOn k mid new → StoresAt IsRecording k IsNotDue old new
+    pub recorded_after : RecordsOn k mid new → StoresAt IsRecording k IsNotDue old new
     recorded_after r = record {
       stores = stores_two IsRecording old mid new (Event.StoreMarks k 0) (Event.Record k) tt tt header (λ previous. first) r.step second
           (ready_on old.array mid.array new.array s.step.array.marks s.ready r.ready);
       done = λ m in_sync. r.done m in_sync.member;
     }
 
-    stops_after : (fault : PartFault) → RecordingFails k mid new fault → StoringFails IsRecording old new fault
+    pub stops_after : (fault : PartFault) → RecordingFails k mid new fault → StoringFails IsRecording old new fault
     stops_after (MemberFailed j) (at, l) = subst (λ (i : ℕ). LosesStoring IsRecording i old new) (sym at)
         (two_lose IsRecording old mid new k (Event.StoreMarks k 0) (Event.WriteFails k MemberPart.Superblock) tt refl header (λ previous. first) l.step second
         (let x = s.step.array.fewer in let y = l.lost in omega arith) (l.halted ∙ s.ready.halted) (kept_before old.array mid.array k s.ready l.was) l.faulty)
     stops_after Halted h = stops_on IsRecording old mid new Halted (stores_step IsRecording (Event.StoreMarks k 0) old mid tt header (λ previous. first) s.ready) h.stores
 
-    pub recorded_or_stops : {T : Type 0} (result : Result T PartFault) → MatchResult result (λ _. RecordsOn k mid new) (RecordingFails k mid new)
-        → MatchResult result (λ _. StoresAt IsRecording k IsNotDue old new) (StoringFails IsRecording old new)
-    recorded_or_stops (Ok t) r = recorded_after r
-    recorded_or_stops (Err fault) r = stops_after fault r
-
--- who fails was in sync
-pub record_in_sync : (k : ℕ) (old mid new : MirrorView) → StoresOn k 0 old mid → {T : Type 0} (result : Result T PartFault)
-    → MatchResult result (λ _. RecordsOn k mid new) (RecordingFails k mid new) → IfErr result (FailsInSync old.array)
-record_in_sync k old mid new s (Ok t) r = tt
-record_in_sync k old mid new s (Err Halted) r = tt
-record_in_sync k old mid new s (Err (MemberFailed j)) r = (s.gives.member, subst (λ (i : ℕ). IsInSync old.array i s.gives.member) (sym r.0) s.gives.may.in_sync)
+  -- who fails was in sync
+  pub record_in_sync : (new : MirrorView) (fault : PartFault) → RecordingFails k mid new fault → FailsInSync old.array fault
+  record_in_sync new Halted r = tt
+  record_in_sync new (MemberFailed j) r = (s.gives.member, subst (λ (i : ℕ). IsInSync old.array i s.gives.member) (sym r.0) s.gives.may.in_sync)
 
 -- ---- of a member that is not in sync
 module _ (k : ℕ) (old new : MirrorView) where

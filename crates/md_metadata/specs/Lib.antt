@@ -10,6 +10,8 @@ pub mod Clearing
 pub mod ComingBack
 -- A whole stop.
 pub mod Stopping
+-- What a part of a whole call answers of a step that is refused, and `stop` of a part.
+pub mod Faults
 -- Recovering members are to say no more that they have data which are about to change, one after another.
 pub mod Lowering
 -- A write-intent bitmap for an array that has none.

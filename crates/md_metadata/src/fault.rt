@@ -1,4 +1,5 @@
 // Why a part of a whole call does not come to its end.
+use md_array::StoreFault;
 use thiserror::Error;
 
 /// Why a part of a whole call does not come to its end. A message is the fault's name and its values, one
@@ -11,4 +12,20 @@ pub enum PartFault {
     /// A write to this member failed. It is faulty now, and the superblocks of the others have to be stored.
     #[error("MemberFailed {0}")]
     MemberFailed(usize),
+}
+
+impl From<StoreFault> for PartFault {
+    ghost use Rattle.std.specs.Prelude.{◌≡◌};
+    ghost use Rattle.md_metadata.specs.Faults.{of_store};
+
+    ghost from_gives = { λ f e. e ≡ of_store f };
+
+    fn from(fault: StoreFault) -> PartFault {
+        match fault {
+            StoreFault::MemberFailed(k) => PartFault::MemberFailed(k),
+            StoreFault::Halted => PartFault::Halted,
+            // No part comes to it: the member that it stores something on is in sync, or kept up to date.
+            StoreFault::NotActive => PartFault::Halted,
+        }
+    }
 }

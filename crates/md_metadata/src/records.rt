@@ -1,16 +1,15 @@
 // Storing the superblocks that are due.
-ghost use Rattle.std.specs.Prelude.{◌≡◌, ◌<◌, ℕ, IfErr, MatchResult, Some, length, true, false};
-ghost use Rattle.md_model.specs.Events.{Event};
+ghost use Rattle.std.specs.Prelude.{◌≡◌, ◌<◌, IfErr, MatchResult, length, true, false};
 ghost use Rattle.md_kept_members.specs.View.{MemberView};
 ghost use Rattle.md_assembly.specs.States.{is_recorded};
-ghost use Rattle.md_state.specs.Members.{AllInSync, IsInSync, IsMember};
+ghost use Rattle.md_state.specs.Members.{AllInSync, IsMember};
 ghost use Rattle.md_state.specs.Steps.WriteMember.{IsNotDue};
 ghost use Rattle.md_array.specs.Consistency.{IsConsistent};
-ghost use Rattle.md_metadata.specs.Storing.{FailsInSync, IsRecording, RecordingFails, RecordsAll, RecordsAt, RecordsOn, StoresAll, StoresAt, StoringFails};
+ghost use Rattle.md_metadata.specs.Storing.{FailsInSync, IsRecording, RecordingFails, RecordsAll, RecordsAt, RecordsOn, StoresAll, StoringFails};
 
 use crate::fault::PartFault;
 use crate::sectors::store_sector;
-use md_array::{Mirror, StoreFault};
+use md_array::Mirror;
 use md_device::Device;
 
 /// Stores the superblock of member k, which is kept up to date. Of a member in sync the first sector of its
@@ -22,28 +21,8 @@ pub fn store_record<D: Device + Drop>(mirror: &mut Mirror<D>, k: usize) -> Resul
     requires active { (m : MemberView) → IsMember mirror.old.array k m → is_recorded m.state ≡ true }
     ensures { MatchResult result (λ _. RecordsOn k mirror.old mirror.new) (RecordingFails k mirror.old mirror.new) }
 {
-    match mirror.record(k) {
-        Ok(()) => Ok(()),
-        Err(StoreFault::MemberFailed(j)) => Err(PartFault::MemberFailed(j)),
-        Err(StoreFault::Halted) => Err(PartFault::Halted),
-        Err(StoreFault::NotActive) => Err(PartFault::Halted),
-    }
-}
-
-// Stores the superblock of member k, if it is in sync and its record is due, and right before it the first sector of its bitmap.
-fn store_due_record<D: Device + Drop>(mirror: &mut Mirror<D>, k: usize) -> Result<(), PartFault>
-    requires within { k < length mirror.old.array.members }
-    requires sound { IsConsistent mirror.old }
-    requires running { mirror.old.array.halted ≡ false }
-    requires earlier { (j : ℕ) (m : MemberView) → j < k → IsInSync mirror.old.array j m → IsNotDue m }
-    ensures gives { MatchResult result (λ _. StoresAt IsRecording k IsNotDue mirror.old mirror.new) (StoringFails IsRecording mirror.old mirror.new) }
-    ensures in_sync { IfErr result (FailsInSync mirror.old.array) }
-{
-    if !mirror.state(k).is_in_sync() || !mirror.due(k) {
-        return Ok(());
-    }
-    store_sector(mirror, k, 0)?;
-    store_record(mirror, k)
+    mirror.record(k)?;
+    Ok(())
 }
 
 // Stores the superblock of member k, if it is kept up to date but not in sync, and its record is due.
@@ -70,7 +49,11 @@ pub fn store_records<D: Device + Drop>(mirror: &mut Mirror<D>) -> Result<(), Par
     ensures in_sync { IfErr result (FailsInSync mirror.old.array) }
 {
     for k in 0..mirror.members() {
-        store_due_record(mirror, k)?;
+        if !mirror.state(k).is_in_sync() || !mirror.due(k) {
+            continue;
+        }
+        store_sector(mirror, k, 0)?;
+        mirror.record(k)?;
     }
     Ok(())
 }

@@ -1,4 +1,5 @@
 // Why an array is not stopped.
+use crate::fault::PartFault;
 use thiserror::Error;
 
 /// Why an array is not stopped. The faults are listed in the order in which they are looked for, and members
@@ -17,4 +18,18 @@ pub enum StopFault {
     /// A write to this member failed. It is faulty now, and the superblocks of the others have to be stored.
     #[error("MemberFailed {0}")]
     MemberFailed(usize),
+}
+
+impl From<PartFault> for StopFault {
+    ghost use Rattle.std.specs.Prelude.{◌≡◌};
+    ghost use Rattle.md_metadata.specs.Faults.{of_part};
+
+    ghost from_gives = { λ f e. e ≡ of_part f };
+
+    fn from(fault: PartFault) -> StopFault {
+        match fault {
+            PartFault::Halted => StopFault::Halted,
+            PartFault::MemberFailed(k) => StopFault::MemberFailed(k),
+        }
+    }
 }

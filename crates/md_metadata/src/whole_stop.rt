@@ -5,7 +5,7 @@ ghost use Rattle.md_state.specs.Steps.MakeClean.{IsIdle};
 ghost use Rattle.md_state.specs.Requests.{IsPending};
 ghost use Rattle.md_state.specs.Steps.Rise.{HasSpentEvents};
 ghost use Rattle.md_array.specs.Consistency.{IsConsistent};
-ghost use Rattle.md_metadata.specs.Stopping.{CleansIfActive, ClearsIfFull, HasAllMarksIf, IsStoringIf, MayStopArray, RefusesStop, StopsMirror, StoresCleaned, clears_marks, makes_clean};
+ghost use Rattle.md_metadata.specs.Stopping.{CleansIfActive, ClearsIfFull, HasAllMarksIf, IsStoringIf, MayStopArray, RefusesStop, StopsMirror, clears_marks, makes_clean};
 ghost use Rattle.md_metadata.specs.Storing.{StoresAll, StoringFails};
 
 use crate::all_marks::store_all_marks;
@@ -31,11 +31,10 @@ pub fn stop<D: Device + Drop>(mirror: &mut Mirror<D>) -> Result<(), StopFault>
     let clears = clears_marks(mirror);
     clear_if_full(mirror);
     clean_if_active(mirror);
-    match store_cleaned(mirror, clears) {
-        Ok(()) => Ok(()),
-        Err(PartFault::Halted) => Err(StopFault::Halted),
-        Err(PartFault::MemberFailed(k)) => Err(StopFault::MemberFailed(k)),
-    }
+    store_marks_if(mirror, clears)?;
+    store_records(mirror)?;
+    store_other_records(mirror)?;
+    Ok(())
 }
 
 // Whether the array may be stopped.
@@ -99,15 +98,4 @@ fn store_marks_if<D: Device + Drop>(mirror: &mut Mirror<D>, clears: bool) -> Res
         return Ok(());
     }
     store_all_marks(mirror)
-}
-
-// Stores the marks, if they were cleared, and the superblocks that are due.
-fn store_cleaned<D: Device + Drop>(mirror: &mut Mirror<D>, clears: bool) -> Result<(), PartFault>
-    requires sound { IsConsistent mirror.old }
-    requires running { mirror.old.array.halted ≡ false }
-    ensures { MatchResult result (λ _. StoresCleaned clears mirror.old mirror.new) (StoringFails (IsStoringIf clears) mirror.old mirror.new) }
-{
-    store_marks_if(mirror, clears)?;
-    store_records(mirror)?;
-    store_other_records(mirror)
 }

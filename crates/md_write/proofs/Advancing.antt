@@ -14,7 +14,7 @@ use Rattle.md_metadata.specs.declared.fault.PartFault.TheVariants.{Halted, Membe
 use Rattle.md_metadata.specs.Going.{GoesOn, StepsBy, only_others}
 use Rattle.md_metadata.specs.Storing.{StoringFails}
 use Rattle.md_metadata.proofs.Going.{fly_on, same_on, same_refl}
-use Rattle.md_write.specs.Progress.{AdvancesRequest, HaltsOn, IsLater, IsOfRequest, LeavesRoundsAt, Part, WritingFails}
+use Rattle.md_write.specs.Progress.{AdvancesRequest, HaltsOn, IsLater, IsOfRequest, IsReadyToFinish, LeavesRoundsAt, Part, WritingFails}
 use Rattle.md_write.proofs.InRounds.{fails_leave, leaves_before, leaves_on, left_at}
 
 pub later_refl : (p : PendingView) → IsLater p p
@@ -114,6 +114,14 @@ module _ (p q r : PendingView) (old mid new : MirrorView) (a b : Part) (g : Adva
     still = h.still;
   }
   stops_later Halted run h = halts_later h
+
+pub ready_on : (p q r : PendingView) (old mid new : MirrorView) → AdvancesRequest Part.Marks Part.Marks p q old mid → IsReadyToFinish q r mid new → IsReadyToFinish p r old new
+ready_on p q r old mid new g h = record {
+  advances = advances_on p q r old mid new Part.Marks Part.Marks g Part.Bytes h.advances;
+  still = h.still;
+  may = h.may;
+  recorded = h.recorded;
+}
 
 -- ---- marks and records are stored beside it
 module _ (Kind : Event → Type 0) (p : PendingView) (old new : MirrorView) (is : IsPending old.array p) (widen : (e : Event) → Kind e → IsOfRequest old.array.chunks p e) where

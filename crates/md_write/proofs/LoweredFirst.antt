@@ -1,13 +1,11 @@
 -- A round begins with the sure offsets of recovering members, which fall in memory.
-use Rattle.std.proofs.Common.{◌≡◌, ℕ, ◌*◌, ◌/◌, ◌≤◌, ◌&&◌, ◌||◌, Bool, true, false, cond, min, List, map, Some, slice_get, refl, sym, ap, ◌∙◌, subst, arith}
+use Rattle.std.proofs.Common.{◌≡◌, ℕ, ◌*◌, ◌/◌, ◌≤◌, ◌||◌, false, cond, min, List, map, slice_get, sym, ap, ◌∙◌, subst, arith}
 use Rattle.std.specs.Prelude.{Result, Ok, Err, MatchResult}
 use Rattle.md_bitmap.specs.declared.chunks.Chunks.{Chunks}
-use Rattle.md_assembly.specs.States.{is_recovering}
 use Rattle.md_inflight.specs.Requests.Pending.{PendingView}
-use Rattle.md_kept_members.specs.TakingBack.{lowered_member, member_says_of}
+use Rattle.md_kept_members.specs.TakingBack.{lowered_member}
 use Rattle.md_kept_members.specs.View.{MemberView}
 use Rattle.md_kept_members.proofs.Kept.Offsets.{mapped_from}
-use Rattle.md_state.specs.Members.{IsMember}
 use Rattle.md_state.specs.Requests.{IsPending}
 use Rattle.md_state.specs.Steps.Begin.{first_sector}
 use Rattle.md_state.specs.View.{ArrayView, MirrorView}
@@ -15,7 +13,7 @@ use Rattle.md_metadata.specs.declared.fault.PartFault.{PartFault}
 use Rattle.md_metadata.specs.Lowering.{IsLowering, LowersAll}
 use Rattle.md_write.specs.Progress.{AdvancesRequest, AllLowered, AreChunksOf, IsLowered, IsReadyToFinish, Part, WritingFails}
 use Rattle.md_write.proofs.InRounds.{lowering_leaves}
-use Rattle.md_write.proofs.Advancing.{advances_on, later_refl, stops_later, stored_beside}
+use Rattle.md_write.proofs.Advancing.{later_refl, ready_on, stops_later, stored_beside}
 use Rattle.md_write.proofs.WrittenData.{chunks_later, lowering_is}
 
 -- a member that was lowered
@@ -36,10 +34,13 @@ all_lowered sector p old new is h i m at =
     let x = mapped_from (lowered_member sector) old.array.members i m (sym (ap (λ (xs : List MemberView). slice_get xs i) members) ∙ at) in
     subst (IsLowered new.array p) (ap (λ (s : ℕ). lowered_member s x.from) (sym is) ∙ x.is) (lowered_is new.array p x.from)
 
-module _ (p q : PendingView) (first end : ℕ) (sector : ℕ) (old mid new : MirrorView) (pending : IsPending old.array p) (chunks : AreChunksOf old.array p first end)
+module _ (p : PendingView) (first end : ℕ) (sector : ℕ) (old mid : MirrorView) (pending : IsPending old.array p) (chunks : AreChunksOf old.array p first end)
     (is : sector ≡ first * old.array.chunks.sectors) (h : LowersAll sector old mid) where
   pub chunks_then : AreChunksOf mid.array p first end
   chunks_then = chunks_later old.array mid.array p p first end h.goes.array (later_refl p) chunks
+
+  pub pending_then : IsPending mid.array p
+  pending_then = h.goes.pending p pending
 
   pub lowered_then : AllLowered mid.array p
   lowered_then =
@@ -47,18 +48,20 @@ module _ (p q : PendingView) (first end : ℕ) (sector : ℕ) (old mid new : Mir
       (is ∙ ap (λ (c : ℕ). c * old.array.chunks.sectors) chunks.first_is
       ∙ sym (ap (λ (c : Chunks). (p.sector / c.sectors) * c.sectors) h.goes.array.chunks)) h
 
+  same_halted : mid.array.halted ≡ old.array.halted
+  same_halted = ap (λ (a : ArrayView). a.halted) h.array
+
   pub running_then : old.array.halted ≡ false → mid.array.halted ≡ false
-  running_then run = ap (λ (a : ArrayView). a.halted) h.array ∙ run
+  running_then run = same_halted ∙ run
 
   begins : AdvancesRequest Part.Marks Part.Marks p p old mid
   begins = stored_beside (IsLowering sector) p old mid pending (lowering_is old.array.chunks p sector) Part.Marks Part.Marks (lowering_leaves sector) h.goes
 
-  pub round_then : {T : Type 0} (result : Result T PartFault) → MatchResult result (λ _. IsReadyToFinish p q mid new) (WritingFails Part.Marks p q mid new)
-      → MatchResult result (λ _. IsReadyToFinish p q old new) (WritingFails Part.Marks p q old new)
-  round_then (Ok t) r = record {
-    advances = advances_on p p q old mid new Part.Marks Part.Marks begins Part.Bytes r.advances;
-    still = r.still;
-    may = r.may;
-    recorded = r.recorded;
-  }
-  round_then (Err fault) r = stops_later p p q old mid new Part.Marks Part.Marks begins fault (ap (λ (a : ArrayView). a.halted) h.array) r
+  module _ (q : PendingView) (new : MirrorView) where
+    pub round_stops : (fault : PartFault) → WritingFails Part.Marks p q mid new fault → WritingFails Part.Marks p q old new fault
+    round_stops fault r = stops_later p p q old mid new Part.Marks Part.Marks begins fault same_halted r
+
+    pub round_then : {T : Type 0} (result : Result T PartFault) → MatchResult result (λ _. IsReadyToFinish p q mid new) (WritingFails Part.Marks p q mid new)
+        → MatchResult result (λ _. IsReadyToFinish p q old new) (WritingFails Part.Marks p q old new)
+    round_then (Ok t) r = ready_on p p q old mid new begins r
+    round_then (Err fault) r = round_stops fault r

@@ -52,6 +52,10 @@ module _ (a : ArrayView) (full : Bool) where
   resynced_if true = refl
   resynced_if false = refl
 
+  halted_if : (rises : Bool) → (cond rises (risen a full) a).halted ≡ a.halted
+  halted_if true = refl
+  halted_if false = refl
+
 -- ---- what each event of a request keeps
 pub record IsOn (g : Geometry) (n : ℕ) (r : Request) (first : World) (m : MirrorView) (s : Requests) : Type 0 where
   pub receiving : IsReceiving n r first (world_of m s)
@@ -125,6 +129,9 @@ module _ (sector : ℕ) (bytes : List ℕ) (old begun : MirrorView) (p : Pending
 
   resynced_is : begun.array.resynced ≡ old.array.resynced
   resynced_is = ap (λ (x : ArrayView). x.resynced) b.array ∙ resynced_if old.array _ (has_to_rise old.array)
+
+  pub running_begun : begun.array.halted ≡ false
+  running_begun = ap (λ (x : ArrayView). x.halted) b.array ∙ halted_if old.array _ (has_to_rise old.array) ∙ b.may.running
 
   entries_are : begun.array.requests.entries ≡ old.array.requests.entries ++ (old.array.requests.next, record { start = sector; sectors = sectors }) ∷ []
   entries_are = ap (λ (x : ArrayView). x.requests.entries) b.array

@@ -170,18 +170,8 @@ module _ (old new : MirrorView) (k : ℕ) (p q : PendingView) (before : IsConsis
 
 -- ---- the members, one after another
 module _ (p q : PendingView) (old new : MirrorView) (w : WritesOn p q old new) where
-  pub marked_on : AllInSync old.array (HasRequestMarks old.array p) → AllInSync new.array (HasRequestMarks new.array q)
-  marked_on all i m in_sync =
-      subst (λ (x : ArrayView). HasRequestMarks x q m) (sym w.array)
-      (subst (λ (x : PendingView). HasRequestMarks old.array x m) (sym w.advances.later.request) (all i m (subst (λ (x : ArrayView). IsInSync x i m) w.array in_sync)))
-
   pub recorded_on : AllInSync old.array IsNotDue → AllInSync new.array IsNotDue
   recorded_on all i m in_sync = all i m (subst (λ (x : ArrayView). IsInSync x i m) w.array in_sync)
-
-  pub unsaid_on : AllUnsaid old.array p → AllUnsaid new.array q
-  unsaid_on all =
-      subst (λ (x : ArrayView). AllUnsaid x q) (sym w.array)
-      (subst (λ (x : PendingView). AllUnsaid old.array x) (sym w.advances.later.request) (λ i m at. all i m at))
 
   pub running_on : old.array.halted ≡ false → new.array.halted ≡ false
   running_on run = ap (λ (x : ArrayView). x.halted) w.array ∙ run

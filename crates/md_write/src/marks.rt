@@ -38,7 +38,7 @@ fn store_lacking<D: Device + Drop>(
 }
 
 // Stores the marks of these chunks on member k, if it is in sync.
-fn store_member_marks<D: Device + Drop>(
+fn store_marks_of_member<D: Device + Drop>(
     mirror: &mut Mirror<D>,
     k: usize,
     first: u32,
@@ -68,7 +68,7 @@ pub(crate) fn store_marks_of_chunks<D: Device + Drop>(
     ensures { MatchResult result (λ _. StoresAll (IsMarkingOf first end) (HasMarksFrom first end) mirror.old mirror.new) (StoringFails (IsMarkingOf first end) mirror.old mirror.new) }
 {
     for k in 0..mirror.members() {
-        store_member_marks(mirror, k, first, end)?;
+        store_marks_of_member(mirror, k, first, end)?;
     }
     Ok(())
 }

@@ -3,7 +3,7 @@ ghost use Rattle.std.specs.Prelude.{◌≡◌, ◌%◌, MatchResult, length, fal
 ghost use Rattle.md_inflight.specs.Requests.Pending.{PendingView};
 ghost use Rattle.md_state.specs.Requests.{IsPending};
 ghost use Rattle.md_array.specs.Consistency.{IsConsistent};
-ghost use Rattle.md_write.specs.Progress.{AllLowered, AreChunksOf, HaltsOn, IsReadyToFinish, Part, WritingFails};
+ghost use Rattle.md_write.specs.Progress.{AreChunksOf, IsReadyToFinish, Part, WritingFails};
 ghost use Rattle.md_write.specs.Writing.{RefusesWrite, Writes};
 
 use crate::data::write_to_members;
@@ -12,8 +12,8 @@ use md_array::{BeginFault, Mirror, Pending};
 use md_device::Device;
 use md_metadata::{PartFault, lower_offsets, store_other_records, store_records};
 
-// Makes a round of the request, until a member fails. That recovering members surely have none of its chunks `begin` has seen to; each
-// round does so by itself, which changes nothing more.
+// Makes a round of the request, until a member fails: stores the marks of its chunks and what is due, and writes its bytes. That
+// recovering members surely have none of its chunks `begin` has seen to; each round does so by itself, which changes nothing more.
 fn write_once<D: Device + Drop>(
     mirror: &mut Mirror<D>,
     pending: &mut Pending<'_>,
@@ -28,49 +28,10 @@ fn write_once<D: Device + Drop>(
 {
     let sectors = mirror.chunks().sectors;
     lower_offsets(mirror, u64::from(first) * u64::from(sectors));
-    store_and_write(mirror, pending, first, end)
-}
-
-// Stores the marks of a request's chunks and what is due, and writes its bytes, until a member fails.
-fn store_and_write<D: Device + Drop>(
-    mirror: &mut Mirror<D>,
-    pending: &mut Pending<'_>,
-    first: u32,
-    end: u32,
-) -> Result<(), PartFault>
-    requires sound { IsConsistent mirror.old }
-    requires pending { IsPending mirror.old.array pending.old }
-    requires running { mirror.old.array.halted ≡ false }
-    requires chunks { AreChunksOf mirror.old.array pending.old first end }
-    requires lowered { AllLowered mirror.old.array pending.old }
-    ensures { MatchResult result (λ _. IsReadyToFinish pending.old pending.new mirror.old mirror.new) (WritingFails Part.Marks pending.old pending.new mirror.old mirror.new) }
-{
     store_marks_of_chunks(mirror, first, end)?;
     store_records(mirror)?;
     store_other_records(mirror)?;
     write_to_members(mirror, pending)
-}
-
-// Does so until no member fails.
-fn write_all<D: Device + Drop>(
-    mirror: &mut Mirror<D>,
-    pending: &mut Pending<'_>,
-    first: u32,
-    end: u32,
-) -> Result<(), BeginFault>
-    requires sound { IsConsistent mirror.old }
-    requires pending { IsPending mirror.old.array pending.old }
-    requires running { mirror.old.array.halted ≡ false }
-    requires chunks { AreChunksOf mirror.old.array pending.old first end }
-    ensures { MatchResult result (λ _. IsReadyToFinish pending.old pending.new mirror.old mirror.new) (λ fault. (fault ≡ BeginFault.Halted) × HaltsOn Part.Marks pending.old pending.new mirror.old mirror.new) }
-{
-    loop {
-        match write_once(mirror, pending, first, end) {
-            Ok(()) => return Ok(()),
-            Err(PartFault::Halted) => return Err(BeginFault::Halted),
-            Err(PartFault::MemberFailed(_)) => {}
-        }
-    }
 }
 
 /// Writes `bytes` from this sector of the array on, on each member in sync. A member that fails on the
@@ -92,7 +53,13 @@ pub fn write<D: Device + Drop>(
     let mut pending = mirror.begin(sector, bytes)?;
     let sectors = pending.sectors();
     let (first, end) = mirror.chunks().chunks_of(sector, sectors);
-    write_all(mirror, &mut pending, first, end)?;
+    loop {
+        match write_once(mirror, &mut pending, first, end) {
+            Ok(()) => break,
+            Err(PartFault::Halted) => return Err(BeginFault::Halted),
+            Err(PartFault::MemberFailed(_)) => {}
+        }
+    }
     match mirror.finish(pending) {
         Ok(()) => Ok(()),
         Err(_) => unreachable!(),

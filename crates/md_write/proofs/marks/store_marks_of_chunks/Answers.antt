@@ -10,30 +10,30 @@ use Rattle.md_metadata.proofs.StoredMembers.{below_all, below_more, below_none}
 pub loop-k-init : goal.loop-k-init
 loop-k-init g c = below_none (IsMarkingOf c.args.first c.args.end) (HasMarksFrom c.args.first c.args.end) c.args.mirror.now c.requires.sound
 
-pub store_member_marks-requires-clause-within : goal.store_member_marks-requires-clause-within
-store_member_marks-requires-clause-within g c =
+pub store_marks_of_member-requires-clause-within : goal.store_marks_of_member-requires-clause-within
+store_marks_of_member-requires-clause-within g c =
     let many = c.loop-k.invariant.stores.goes.array.as_many in
     let count = c.members-k-end.ensures in
     omega arith
 
-pub store_member_marks-requires-clause-sound : goal.store_member_marks-requires-clause-sound
-store_member_marks-requires-clause-sound g c = c.loop-k.invariant.stores.goes.sound
+pub store_marks_of_member-requires-clause-sound : goal.store_marks_of_member-requires-clause-sound
+store_marks_of_member-requires-clause-sound g c = c.loop-k.invariant.stores.goes.sound
 
-pub store_member_marks-requires-clause-running : goal.store_member_marks-requires-clause-running
-store_member_marks-requires-clause-running g c = c.loop-k.invariant.stores.ready.halted ∙ c.requires.running
+pub store_marks_of_member-requires-clause-running : goal.store_marks_of_member-requires-clause-running
+store_marks_of_member-requires-clause-running g c = c.loop-k.invariant.stores.ready.halted ∙ c.requires.running
 
-pub store_member_marks-requires-clause-marked : goal.store_member_marks-requires-clause-marked
-store_member_marks-requires-clause-marked g c = marked_still c.args.mirror.now.array c.loop-k.mirror.array c.args.first c.args.end c.loop-k.invariant.stores.goes.array c.requires.marked
+pub store_marks_of_member-requires-clause-marked : goal.store_marks_of_member-requires-clause-marked
+store_marks_of_member-requires-clause-marked g c = marked_still c.args.mirror.now.array c.loop-k.mirror.array c.args.first c.args.end c.loop-k.invariant.stores.goes.array c.requires.marked
 
-pub returns-in_err-store_member_marks : goal.returns-in_err-store_member_marks
-returns-in_err-store_member_marks g c =
+pub returns-in_err-store_marks_of_member : goal.returns-in_err-store_marks_of_member
+returns-in_err-store_marks_of_member g c =
     let p = err_from_is_err_and c.from_residual.result c.from_residual.ensures.1 in
-    rw (p.1, p.2) (stops_on (IsMarkingOf c.args.first c.args.end) c.args.mirror.now c.loop-k.mirror c.store_member_marks.new.mirror c.in_err-store_member_marks.field-0.0 c.loop-k.invariant.stores c.in_err-store_member_marks.ensures)
+    rw (p.1, p.2) (stops_on (IsMarkingOf c.args.first c.args.end) c.args.mirror.now c.loop-k.mirror c.store_marks_of_member.new.mirror c.in_err-store_marks_of_member.field-0.0 c.loop-k.invariant.stores c.in_err-store_marks_of_member.ensures)
 
 pub loop-k-preserved : goal.loop-k-preserved
 loop-k-preserved g c =
-    below_more (IsMarkingOf c.args.first c.args.end) (HasMarksFrom c.args.first c.args.end) c.loop-k.k c.args.mirror.now c.loop-k.mirror c.store_member_marks.new.mirror
-    (marks_last c.args.mirror.now.array c.args.first c.args.end c.requires.marked) c.loop-k.invariant c.in_ok-store_member_marks.ensures
+    below_more (IsMarkingOf c.args.first c.args.end) (HasMarksFrom c.args.first c.args.end) c.loop-k.k c.args.mirror.now c.loop-k.mirror c.store_marks_of_member.new.mirror
+    (marks_last c.args.mirror.now.array c.args.first c.args.end c.requires.marked) c.loop-k.invariant c.in_ok-store_marks_of_member.ensures
 
 pub returns : goal.returns
 returns g c =

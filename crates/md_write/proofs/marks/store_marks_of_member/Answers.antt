@@ -3,7 +3,7 @@ use Rattle.std.proofs.lemmas.Result.{err_from_is_err_and}
 use Rattle.md_write.specs.Progress.{IsMarkingOf}
 use Rattle.md_metadata.proofs.Going.{stops_on}
 use Rattle.md_write.proofs.StoredMarks.{StoresUpTo, marked_still, up_all, up_more, up_none}
-use Rattle.md_write.proofs.marks.store_member_marks.Goals as goal
+use Rattle.md_write.proofs.marks.store_marks_of_member.Goals as goal
 
 pub loop-block-init : goal.loop-block-init
 loop-block-init g c =

@@ -2,15 +2,15 @@ use Rattle.std.proofs.Common.{◌≡◌, false}
 use Rattle.md_state.specs.Requests.{IsPending}
 use Rattle.md_metadata.specs.Going.{recorded_count}
 use Rattle.md_write.specs.Progress.{AdvancesRequest, AreChunksOf, Part}
-use Rattle.md_write.proofs.whole_write.write_all.Given as goal
+use Rattle.md_write.proofs.whole_write.write.Given as goal
 
-abbrev pub decreases-loop : goal.decreases-loop
-decreases-loop g l = recorded_count l.mirror.array
+abbrev pub decreases-loop-pending : goal.decreases-loop-pending
+decreases-loop-pending g l = recorded_count l.mirror.array
 
-abbrev pub invariant-loop : goal.invariant-loop
-invariant-loop g l =
+abbrev pub invariant-loop-pending : goal.invariant-loop-pending
+invariant-loop-pending g l =
     record {
-      advances : AdvancesRequest Part.Marks Part.Marks l.fn.pending l.pending l.fn.mirror l.mirror;
+      advances : AdvancesRequest Part.Marks Part.Marks l.initial.pending l.pending l.initial.mirror l.mirror;
       still : IsPending l.mirror.array l.pending;
       running : l.mirror.array.halted ≡ false;
       around : AreChunksOf l.mirror.array l.pending l.first l.end;
