@@ -12,6 +12,9 @@ import support
 # compiler makes without a call for memory where little is read beside it, as in `examine'.
 WITHIN = {
     "md_array::Mirror::enrol": "md_copy::rebuild",
+    "md_array::Mirror::enrol_but_for": "md_copy::salvage",
+    "md_array::Mirror::note_bad_sectors": "md_copy::salvage",
+    "md_copy::sectors_to_list": "md_copy::salvage",
     "md_assembly::assemble": "md_array::Mirror::open",
     "md_check::compare_members": "md_commands::list_mismatches",
     "md_commands::resync_if_needed": "md_read_commands::read_array",
@@ -84,6 +87,7 @@ FAILS = {
     "md_collect::Collector::new": ("part_tests", "collector_reports::each_planned_chunk_is_taken_once", "AllocError"),
     "md_copy::table": ("call_tests", "rebuilds::rebuild_with_orphan", "no memory: table"),
     "md_copy::rebuild": ("call_tests", "rebuilds::rebuild_with_orphan", "no memory: rebuild"),
+    "md_copy::salvage": ("call_tests", "salvage_rows::salvaged_members", "no memory: salvage"),
     "md_device::MemDevice::new": ("crash_tests", "fuses::data_are_torn", "AllocError"),
     "md_images::MemImages::add": ("command_tests", "faults_in_memory::images_and_inputs_that_fail", "AllocError"),
     "md_images::MemImages::add_protected": ("command_tests", "faults_in_memory::images_and_inputs_that_fail", "AllocError"),
@@ -162,9 +166,6 @@ TAKES_NONE = {
     "md_state::Array::store_failed",
 }
 
-# No whole call makes these yet, and no test: what is asked of their callers is not shown of one.
-UNPLAYED = {"md_array::Mirror::enrol_but_for", "md_array::Mirror::note_bad_sectors"}
-
 # The program too, and the files that it makes, which tests/resumed tries.
 NOT_SHIPPED = re.compile(r"(.*_tests|example_members|bench_parts|md_outputs|mdcli)$")
 TYPE = re.compile(r"^pub (?:enum|struct) (\w+)[^;{]*\{(.*?)^\}", re.M | re.S)
@@ -223,7 +224,7 @@ def public_calls():
 
 
 def reasons_against(call, outcomes, commands):
-    if call in TAKES_NONE | UNPLAYED:
+    if call in TAKES_NONE:
         return []
     if call in WITHIN:
         return [] if WITHIN[call] in LINES else ["it is made within %s, which has no line" % WITHIN[call]]
@@ -242,7 +243,7 @@ def reasons_against(call, outcomes, commands):
     return [] if words in outcome.said else ["no run of %s %s said `%s'" % (suite, test, words)]
 
 
-LINES = {"md_cli::run"}.union(WITHIN, AGAIN, FAILS, ANSWERS, LATER, TAKES_NONE, UNPLAYED)
+LINES = {"md_cli::run"}.union(WITHIN, AGAIN, FAILS, ANSWERS, LATER, TAKES_NONE)
 
 
 def judge_all(tally, outcomes, commands):

@@ -36,6 +36,7 @@ pub(crate) enum Call {
     RebuildMeeting(usize),
     // What its passes planned is told.
     RebuildPlanned(usize),
+    Salvage(usize),
     // What is looked at.
     Events,
     Show,
@@ -73,6 +74,8 @@ pub(crate) enum Answer {
     RebuiltIn(u32, usize),
     // How many passes there were, and what the first two planned.
     Planned(u32, Planning, Planning),
+    // How many sectors are lost, and how many are listed.
+    Salvaged(u64, u64),
     NotRebuilt(RebuildFault),
     // There is no such member or device.
     NotCalled,
@@ -110,6 +113,7 @@ impl Call {
             Call::Rebuild(_) | Call::RebuildMeeting(_) | Call::RebuildPlanned(_) => {
                 "no memory: rebuild"
             }
+            Call::Salvage(_) => "no memory: salvage",
             Call::Check | Call::CheckCounted | Call::CheckMeeting => "no memory: check_array",
             _ => "no memory: another call",
         }

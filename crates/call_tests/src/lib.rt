@@ -20,6 +20,8 @@ mod call;
 #[cfg(test)]
 mod checks;
 #[cfg(test)]
+mod created;
+#[cfg(test)]
 mod data;
 #[cfg(test)]
 mod failing_reads;
@@ -27,6 +29,8 @@ mod failing_reads;
 mod gates;
 #[cfg(test)]
 mod left;
+#[cfg(test)]
+mod listed_sectors;
 #[cfg(test)]
 mod members;
 #[cfg(test)]
@@ -41,6 +45,10 @@ mod rebuilds;
 mod resyncs;
 #[cfg(test)]
 mod run;
+#[cfg(test)]
+mod salvage_rows;
+#[cfg(test)]
+mod salvages;
 #[cfg(test)]
 mod told;
 #[cfg(test)]

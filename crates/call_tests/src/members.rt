@@ -35,6 +35,8 @@ pub(crate) struct Member {
     pub(crate) data: Data,
     // Its log has room for no entry beside those that it has. They are of sectors past the array.
     pub(crate) is_log_full: bool,
+    // It has no log at all.
+    pub(crate) has_no_log: bool,
     // Reads of so many sectors from this one of the array on fail.
     pub(crate) bad: (u64, u64),
     // Writes fail from this number on, and then half of their sectors are written where they are torn.
@@ -55,6 +57,7 @@ pub(crate) const FIRST: Member = Member {
     listed: (0, 0),
     data: NUMBERED,
     is_log_full: false,
+    has_no_log: false,
     bad: (0, 0),
     fails: NEVER,
     torn: false,
@@ -83,6 +86,9 @@ fn superblock_of(member: &Member) -> [u8; 4096] {
     }
     if member.is_log_full {
         put(&mut b, 186, &1u16.to_le_bytes());
+    }
+    if member.has_no_log {
+        put(&mut b, 186, &0u16.to_le_bytes());
     }
     put(&mut b, 184, &[u8::from(member.is_write_mostly)]);
     put(&mut b, 80, &member.size.to_le_bytes());

@@ -57,7 +57,11 @@ fn make_one<R: Abort + Print + Threads + Wait + Sync>(
     if !answer.lacks_memory() {
         return Ok(answer);
     }
-    if let Call::Rebuild(k) | Call::RebuildMeeting(k) | Call::RebuildPlanned(k) = call {
+    if let Call::Rebuild(k)
+    | Call::RebuildMeeting(k)
+    | Call::RebuildPlanned(k)
+    | Call::Salvage(k) = call
+    {
         holds(rt, &"without memory", !run.is_in_sync(k));
     }
     rt.println(call.name())?;

@@ -14,7 +14,7 @@ use std::test::Fail;
 // What a new member holds before.
 pub(crate) const NEW: u8 = 0x77;
 
-const SPARE: Member = Member {
+pub(crate) const SPARE: Member = Member {
     data: Data(Filling::Same(NEW), NONE_OTHER, NONE_OTHER),
     ..THIRD
 };
@@ -43,7 +43,7 @@ pub(crate) const SHORT_REBUILT: Left = Left(
 
 const NONE: (usize, Option<u32>) = (0, None);
 
-const IN_SYNC: Answer = Answer::Is(MemberState::InSync(1));
+pub(crate) const IN_SYNC: Answer = Answer::Is(MemberState::InSync(1));
 
 // One pass that copies nothing.
 const ONE_PASS: Told = Told {
@@ -54,7 +54,7 @@ const ONE_PASS: Told = Told {
     orphans: NONE,
 };
 
-const NO_LIST: Answer = Answer::Lists(0, 0, 0);
+pub(crate) const NO_LIST: Answer = Answer::Lists(0, 0, 0);
 
 const CHUNK_1: Answer = Answer::Lists(1, 2056, 8);
 
@@ -164,7 +164,7 @@ fn failing_sources(rt: HostRuntime) -> Result<(), Fail> {
     play(&rt, rt.alloc(), &FAILING_SOURCES)
 }
 
-const LOST: Answer = Answer::NotRebuilt(RebuildFault::MetadataFault(0));
+pub(crate) const LOST: Answer = Answer::NotRebuilt(RebuildFault::MetadataFault(0));
 
 const RECOVERING: Answer = Answer::Is(MemberState::Recovering(2));
 
@@ -245,12 +245,12 @@ fn members_that_cannot_be_written(rt: HostRuntime) -> Result<(), Fail> {
 }
 
 // It lists chunk 3. The spare lists another chunk, which it gets.
-const LISTING: Member = Member {
+pub(crate) const LISTING: Member = Member {
     listed: (24, 8),
     ..FIRST
 };
 
-const LISTING_SPARE: Member = Member {
+pub(crate) const LISTING_SPARE: Member = Member {
     listed: (8, 8),
     ..SPARE
 };

@@ -7,11 +7,12 @@ use crate::data::{Data, WHOLE};
 use crate::gates::{Counting, Meeting, Silent};
 use crate::members::Testing;
 use crate::open::open;
+use crate::salvages::size_of;
 use crate::told::{plans_of, told_of};
 use md_array::Mirror;
 use md_cert::Table;
 use md_check::{CheckFault, check_array};
-use md_copy::{Gate, RebuildFault, Rebuilt, rebuild, table};
+use md_copy::{Gate, RebuildFault, Rebuilt, rebuild, salvage, table};
 use md_metadata::stop;
 use md_read::{UnresyncedFault, read, read_unresynced};
 use md_resync::resync;
@@ -96,6 +97,7 @@ impl Run {
             Call::Rebuild(k) => self.rebuild(rt, alloc, k, &Silent),
             Call::RebuildMeeting(k) => self.rebuild_meeting(rt, alloc, k),
             Call::RebuildPlanned(k) => self.rebuild_planned(rt, alloc, k),
+            Call::Salvage(k) => self.salvage(rt, alloc, k),
             Call::Events => Answer::Counting(self.mirror.events()),
             Call::Show => self.show(),
             Call::State(k) => self.state(k),
@@ -276,6 +278,20 @@ impl Run {
                 let (first, second) = plans_of(&rebuilt);
                 drop(rebuilt);
                 Answer::Planned(passes, first, second)
+            }
+            Err(fault) => Answer::NotRebuilt(fault),
+        }
+    }
+
+    fn salvage<R: Threads + Wait + Sync>(&mut self, rt: &R, alloc: Global, k: usize) -> Answer {
+        if k >= self.mirror.members() {
+            return Answer::NotCalled;
+        }
+        match salvage(rt, alloc, &mut self.mirror, k, &Silent) {
+            Ok(told) => {
+                let answer = Answer::Salvaged(size_of(&told.lost), size_of(&told.listed));
+                drop(told);
+                answer
             }
             Err(fault) => Answer::NotRebuilt(fault),
         }

@@ -16,6 +16,7 @@ pub(crate) enum Call {
     Admit(usize),
     Checkpoint(usize),
     Rebuild(usize),
+    Salvage(usize),
 }
 
 #[derive(Clone, Copy, Debug, PartialEq, Eq)]

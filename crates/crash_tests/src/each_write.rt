@@ -174,11 +174,23 @@ const ADMITTED: [Call; 7] = [
     Call::Stop,
 ];
 
+const SALVAGED: [Call; 3] = [Call::Add(2), Call::Salvage(2), Call::Stop];
+
+const SALVAGED_AGAIN: [Call; 7] = [
+    Call::Fail(1),
+    Call::Record,
+    Call::Remove(1),
+    Call::Write(16, 2, 3),
+    Call::ReAdd(1),
+    Call::Salvage(1),
+    Call::Stop,
+];
+
 const WRITTEN: [Call; 1] = [Call::Write(8, 2, 2)];
 
 const RESYNCED: [Call; 1] = [Call::Resync];
 
-const LISTS: [List; 5] = [
+const LISTS: [List; 7] = [
     List {
         raid_disks: 2,
         calls: &WRITES,
@@ -198,6 +210,14 @@ const LISTS: [List; 5] = [
     List {
         raid_disks: 3,
         calls: &ADMITTED,
+    },
+    List {
+        raid_disks: 3,
+        calls: &SALVAGED,
+    },
+    List {
+        raid_disks: 2,
+        calls: &SALVAGED_AGAIN,
     },
 ];
 

@@ -116,6 +116,7 @@ impl Life {
         match self.dice.below(4) {
             0 => Call::Admit(k),
             1 => Call::Checkpoint(k),
+            2 => Call::Salvage(k),
             _ => Call::Rebuild(k),
         }
     }

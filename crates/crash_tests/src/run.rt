@@ -14,7 +14,7 @@ use md_array::{AddFault, BeginFault, Mirror, OpenFault, ReAddFault, RemoveFault}
 use md_assembly::MemberState;
 use md_bitmap::Marks;
 use md_check::{CheckFault, check_array};
-use md_copy::{Gate, rebuild};
+use md_copy::{Gate, rebuild, salvage};
 use md_device::{CrashDevice, Device, Fuse, MemDevice};
 use md_metadata::{stop, store_all_marks, store_other_records, store_records};
 use md_read::read;
@@ -284,6 +284,7 @@ impl Run {
             Call::Admit(k) => Ok(self.admit(alloc, k)),
             Call::Checkpoint(k) => self.checkpoint(alloc, k),
             Call::Rebuild(k) => Ok(self.rebuild(rt, alloc, k)),
+            Call::Salvage(k) => Ok(self.salvage(rt, alloc, k)),
         }
     }
 
@@ -409,6 +410,16 @@ impl Run {
         let rebuilt = rebuild(rt, alloc, &mut self.mirror, k, &Silent);
         let is_done = rebuilt.is_ok();
         drop(rebuilt);
+        answer(is_done)
+    }
+
+    fn salvage<R: Threads + Wait + Sync>(&mut self, rt: &R, alloc: Global, k: usize) -> Answer {
+        if k >= self.mirror.members() {
+            return Answer::NotCalled;
+        }
+        let salvaged = salvage(rt, alloc, &mut self.mirror, k, &Silent);
+        let is_done = salvaged.is_ok();
+        drop(salvaged);
         answer(is_done)
     }
 }

@@ -11,3 +11,6 @@ pub mod RebuildRun
 pub mod HeldBefore
 pub mod RefusedRebuilds
 pub mod LastOffsets
+pub mod SalvageCrashes
+pub mod HeldAtSalvage
+pub mod SalvageRun

@@ -10,3 +10,7 @@ pub mod RefusedRebuilds
 pub mod LastOffsets
 -- An `enrol` by itself of which a write of the bitmap or of the log failed.
 pub mod UnfinishedEnrols
+-- What a crash within a salvage leaves.
+pub mod SalvageCrashes
+-- A salvage in the life of a mirror is a run.
+pub mod SalvageRuns

@@ -26,3 +26,7 @@ pub mod Refusals
 pub mod PassLemmas
 -- What is known of a rebuild before anything is copied.
 pub mod TableLemmas
+-- A salvage, which loses sectors and no chunk for a sector.
+pub mod SalvageLemmas
+-- What holds of every salvage by its steps.
+pub mod SalvageLaws

@@ -36,3 +36,5 @@ pub mod PassLaws
 pub mod Told
 -- What is known of a rebuild before anything is copied.
 pub mod Table
+-- A salvage, which loses sectors and no chunk for a sector (this project's own).
+pub mod Salvaging

@@ -41,8 +41,8 @@ pub(crate) fn leave<D: Device + Drop>(
     }
 }
 
-// No chunk counts as copied any more.
-fn forget(copied: &mut Marks)
+/// No chunk counts as copied any more.
+pub(crate) fn forget(copied: &mut Marks)
     ensures chunks { copied.new.chunks ≡ copied.old.chunks }
     ensures none { (c : ℕ) → c < copied.old.chunks → is_set copied.new.bytes c ≡ false }
 {
@@ -51,8 +51,8 @@ fn forget(copied: &mut Marks)
     }
 }
 
-// It is recorded where the mirror runs.
-fn record<D: Device + Drop>(mirror: &mut Mirror<D>, target: usize, copied: &Marks)
+/// It is recorded where the mirror runs.
+pub(crate) fn record<D: Device + Drop>(mirror: &mut Mirror<D>, target: usize, copied: &Marks)
     requires within { target < length mirror.old.array.members }
     requires sound { IsConsistent mirror.old }
     requires may { mirror.old.array.halted ≡ false → MayCheckpoint target copied.now mirror.old }

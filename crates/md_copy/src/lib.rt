@@ -5,6 +5,7 @@
 //!
 //! `pass_laws/`: the passes of a rebuild, as plans one after another.
 //! `beginning/`: what a rebuild would copy, and why a member is not rebuilt, before anything is copied.
+//! `salvaging/`: a rebuild that loses sectors, and no chunk for a sector.
 //!
 //! ```
 //! let rebuilt = rebuild(rt, alloc, &mut mirror, 1, &gate)?;
@@ -24,6 +25,7 @@ mod pass_laws;
 mod passes;
 mod readying;
 mod rebuilt;
+mod salvaging;
 mod sources;
 mod storing;
 mod stretches;
@@ -34,4 +36,5 @@ pub use beginning::{RebuildFault, check_rebuild, keep_missing, marks_of, table, 
 pub use md_pass::Gate;
 pub use pass_laws::{copies_add, lists_add, passes_end, passes_go_on};
 pub use rebuilt::Rebuilt;
+pub use salvaging::{Salvaged, salvage, salvage_events, salvaged_by_call, sectors_to_list};
 pub use whole_rebuild::rebuild;

@@ -77,8 +77,8 @@ pub(crate) fn copy_passes<D: Device + Drop + Send, G: Gate + Sync, R: Threads + 
     unreachable!()
 }
 
-// One pass over the chunks of a table: it is planned, and made in stretches.
-fn make_pass<D: Device + Drop + Send, G: Gate + Sync, R: Threads + Wait + Sync>(
+/// One pass over the chunks of a table: it is planned, and made in stretches.
+pub(crate) fn make_pass<D: Device + Drop + Send, G: Gate + Sync, R: Threads + Wait + Sync>(
     rt: &R,
     alloc: Global,
     mirror: &mut Mirror<D>,

@@ -12,6 +12,6 @@ StoresNoLog e = Unit {0}
 abbrev pub MisreadsSpoiled : Moment → Type 0
 MisreadsSpoiled t = (k : ℕ) → t.misread k ≡ t.spoiled k
 
--- So it is right after an opening, and stays so along a run that stores no log.
+-- Right after an opening no others are misread. Along a run that stores no log it stays so.
 abbrev pub StaysUnlogged : Type 0
 StaysUnlogged = (es : List Event) (t last : Moment) → MirrorRun t es last → AllOf StoresNoLog es → MisreadsSpoiled t → MisreadsSpoiled last

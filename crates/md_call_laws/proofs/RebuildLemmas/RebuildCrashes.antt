@@ -220,7 +220,7 @@ later_crash target t {mid} c left s = record {
 }
 
 -- what is left is what stands at a moment or within a call from there
-at_crash : (target : ℕ) (t : Moment) → IsOut target t.mirror → (left : List Disk) → IsLeftByCrash t left → IsCrashBefore target t left
+pub at_crash : (target : ℕ) (t : Moment) → IsOut target t.mirror → (left : List Disk) → IsLeftByCrash t left → IsCrashBefore target t left
 at_crash target t out left is_left = record { after = record { events = []; steps = tt; at = t; run = at_rest t; is_left = is_left; readable = λ k was. was }; out = out }
 
 same_reads : (x y : List ℕ) → x ≡ y → ReadsAs x y
@@ -409,7 +409,7 @@ module _ (target : ℕ) (slots : List Slot) (before after : Bitmap) (t : Moment)
         later_crash target t c left (recording_crash target (end c) (end_steady c at) recovers_filled after new h.checkpoints left within.0 within.1))
   ]
 
-stretches_crash : (target : ℕ) (rounds : List ℕ) (slots rest : List Slot) (before after : Bitmap) (t : Moment) → IsSteadyAt t → HoldsSoFar target t.mirror before []
+pub stretches_crash : (target : ℕ) (rounds : List ℕ) (slots rest : List Slot) (before after : Bitmap) (t : Moment) → IsSteadyAt t → HoldsSoFar target t.mirror before []
     → (new : MirrorView) (h : AreRecorded target rounds slots rest before after t.mirror new) (left : List Disk) → CrashesInStretches IsSuperWhole target rounds slots rest before after t.mirror new h left → IsCrashBefore target t left
 stretches_crash target [] slots rest before after t at so new h left stop = absurd stop
 stretches_crash target (round ∷ rounds) slots rest before after t at so new h left (inl here) = stretch_crash target (slots_before round slots) before h.0 t at so h.1 h.2 left here

@@ -39,7 +39,7 @@ abbrev pub Before : ℕ → Event → Type 0
 Before target = IsBeforeEnrol target
 
 -- ---- of some events nothing is asked
-whole_of : (es : List Event) (previous : Option Event) (old : MirrorView) (before : Requests) (Then : MirrorView → Requests → Type 0) (turn : InTurn previous old before es Then)
+pub whole_of : (es : List Event) (previous : Option Event) (old : MirrorView) (before : Requests) (Then : MirrorView → Requests → Type 0) (turn : InTurn previous old before es Then)
     → AllOf IsNoFailedRecord es → AllLeftWhole es previous old before Then turn
 whole_of [] previous old before Then turn all = tt
 whole_of (e ∷ es) previous old before Then turn all = (one e all.0, whole_of es (Some e) turn.0 turn.1 Then turn.5 all.1)
@@ -58,7 +58,7 @@ unfailing_records (Event.StoreMarks k b ∷ es) of none = (tt, unfailing_records
 unfailing_records (Event.WriteFails k part ∷ es) of none = absurd none.0
 unfailing_records (e ∷ es) of none = absurd of.0
 
-noting_records : (e : Event) → IsNoting e → IsNoFailedRecord e
+pub noting_records : (e : Event) → IsNoting e → IsNoFailedRecord e
 noting_records (Event.NoteBad k more) of = tt
 noting_records e of = absurd of
 

@@ -5,6 +5,8 @@ ghost use Rattle.md_call_laws.specs.Rebuilds.RebuiltInLife.{CopiesContent, HeldI
 ghost use Rattle.md_call_laws.specs.Rebuilds.RefusedRebuilds.{LostIsARun, RefusedIsARun, CrashesLeaving, CrashesLeavingAnyhow, CrashesLeavingLost, CrashesLeavingLostAnyhow, CrashesUnleft, CrashesUnleftLost};
 ghost use Rattle.md_call_laws.specs.Rebuilds.LastOffsets.{OffsetStands, OffsetStandsWithin, OpeningsFind, CrashesCopyingFind, CrashesListingFind, CrashesStoringFind, CrashesUnlistedFind};
 ghost use Rattle.md_call_laws.specs.Rebuilds.UnfinishedEnrols.{CrashesUnfinishedEnrol, UnfinishedEnrolsPrepare};
+ghost use Rattle.md_call_laws.specs.Rebuilds.SalvageRuns.{CrashesStoringSalvaged, SalvageIsARun, SalvageRunsOn};
+ghost use Rattle.md_call_laws.specs.Rebuilds.SalvageCrashes.{CrashesChunkUnrecorded, CrashesEnrollingSalvaged, CrashesInSalvage, CrashesInSalvageAnyhow, CrashesListingLost, CrashesRecordingChunk, CrashesRecordingChunkAnyhow, CrashesSalvaging, CrashesUnenrolledSalvaged};
 ghost use Rattle.md_call_laws.specs.Rebuilds.RebuildCrashes.{CrashesAdmitting, CrashesAdmittingAnyhow, CrashesAnyhow, CrashesAtCheckpoint, CrashesAtCheckpointAnyhow, CrashesAtFailedCheckpoint, CrashesEnrolled, CrashesEnrolling, CrashesEnrollingAnyhow, CrashesFilling, CrashesInRebuild, CrashesListing, CrashesPassUnrecorded, CrashesRecording, CrashesRecordingAnyhow, CrashesStoringRecords, CrashesStoring, CrashesTelling, CrashesUnadmitted, CrashesUnadmittedAnyhow, CrashesUnenrolled, CrashesUnenrolledAnyhow, CrashesUnrecorded};
 
 /// A mirror was opened from devices that do what they answer, whose stored marks covered what they differ in,
@@ -105,4 +107,31 @@ pub fn last_offsets()
 pub fn unfinished_enrols()
     ensures prepares { UnfinishedEnrolsPrepare }
     ensures crashed { CrashesUnfinishedEnrol }
+{}
+
+/// A salvage that is done is a run of the mirror, from any moment of a life on, and the content stays what it was: up to the
+/// mirror in which its target is in sync, and on to the end of the call. So is a crash after the enrolment.
+pub fn salvage_runs()
+    ensures enrolled { SalvageIsARun }
+    ensures records_stored { SalvageRunsOn }
+    ensures storing_records { CrashesStoringSalvaged }
+{}
+
+/// What a crash within a salvage leaves until its target is in sync, is what a crash of a run leaves, as within a rebuild: while
+/// a chunk is filled sector by sector, and while it is recorded how far that came; while the lists are stored of the
+/// sectors that no member gave; and within the enrolment, where the target's superblock stands as before it.
+pub fn salvage_crashes()
+    ensures filling { CrashesSalvaging }
+    ensures recording { CrashesRecordingChunk }
+    ensures unrecorded { CrashesChunkUnrecorded }
+    ensures listing { CrashesListingLost }
+    ensures enrolling { CrashesEnrollingSalvaged }
+    ensures unenrolled { CrashesUnenrolledSalvaged }
+
+    // Whatever stands in place of the target's superblock.
+    ensures recording_anyhow { CrashesRecordingChunkAnyhow }
+
+    // A crash at any moment of it.
+    ensures until_enrolled { CrashesInSalvage }
+    ensures anyhow { CrashesInSalvageAnyhow }
 {}

@@ -45,7 +45,7 @@ pub last_of : (enrolled new : MirrorView) → StoresUntilDone enrolled new → (
 last_of enrolled new (inl all) = (new, record { goes = all.goes; ends = inl (refl, all.running) })
 last_of enrolled new (inr halts) = (halts.mid, record { goes = halts.goes; ends = inr (record { failing = halts.failing; of = halts.of; halts = halts.halts }) })
 
-abbrev runs_or_halts : {last new : MirrorView} → ((last ≡ new) × (new.array.halted ≡ false)) ⊎ HaltsFrom last new → RunsOrHalts new
+abbrev pub runs_or_halts : {last new : MirrorView} → ((last ≡ new) × (new.array.halted ≡ false)) ⊎ HaltsFrom last new → RunsOrHalts new
 runs_or_halts (inl runs) = inl runs.1
 runs_or_halts {last} (inr halts) = inr (last, halts)
 
@@ -63,7 +63,7 @@ halts_still k last new (Event.WriteFails j part) of h apart =
     }
 halts_still k last new e of h apart = absurd h
 
-still_so : (k : ℕ) (last new : MirrorView) (ends : ((last ≡ new) × (new.array.halted ≡ false)) ⊎ HaltsFrom last new) → (HaltsTo (runs_or_halts ends) k → ⊥) → IsStill k last new
+pub still_so : (k : ℕ) (last new : MirrorView) (ends : ((last ≡ new) × (new.array.halted ≡ false)) ⊎ HaltsFrom last new) → (HaltsTo (runs_or_halts ends) k → ⊥) → IsStill k last new
 still_so k last new (inl same) apart = subst (λ (v : MirrorView). IsStill k last v) same.0 (record { member = λ n at. at; device = refl })
 still_so k last new (inr halts) apart = halts_still k last new halts.failing halts.of (halts.halts (λ n. None)) apart
 

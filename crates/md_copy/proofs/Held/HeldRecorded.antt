@@ -134,7 +134,7 @@ module _ (target : ℕ) (copied : Bitmap) (v w : MirrorView) (sound : IsConsiste
   marks_is = ap (λ (b : ArrayView). b.marks) r.array
 
   -- ---- its data
-  was_there : (j : ℕ) (e : Disk) → slice_get w.disks j ≡ Some e → (d : Disk) × (slice_get v.disks j ≡ Some d)
+  pub was_there : (j : ℕ) (e : Disk) → slice_get w.disks j ≡ Some e → (d : Disk) × (slice_get v.disks j ≡ Some d)
   was_there j e at_e =
       let low = slice_get_within w.disks j e at_e in
       let many = r.disks.tried.as_many in
@@ -144,7 +144,7 @@ module _ (target : ℕ) (copied : Bitmap) (v w : MirrorView) (sound : IsConsiste
   data_kept d e at_d at_e =
       beside_super_of m d e ((places_of v sound).each target m d r.may.at at_d) (subst (λ l. SameOutside (512 * 8) l d.content e.content) r.readable.size (r.disks.tried.outside d e at_d at_e))
 
-  room : (d : Disk) → slice_get v.disks target ≡ Some d → a.chunks.size ≤ m.superblock.data_size
+  pub room : (d : Disk) → slice_get v.disks target ≡ Some d → a.chunks.size ≤ m.superblock.data_size
   room d at_d =
       let fits = (sound.fits.each target d m at_d r.may.at).placed.data_holds in
       let same = sound.chunks.size in
@@ -188,7 +188,7 @@ module _ (target : ℕ) (copied : Bitmap) (v w : MirrorView) (sound : IsConsiste
       marked_so false false before passed is = absurd cc
 
   -- Where it does not lack a chunk any more, the new offset has passed it, and nothing stopped it there.
-  no_stop : (x : MemberView) → IsMember w.array target x → (c : ℕ) → c < a.marks.chunks → is_missing a m c ≡ true → is_missing w.array x c ≡ false → EndsCheckpoint a m copied c → ⊥
+  pub no_stop : (x : MemberView) → IsMember w.array target x → (c : ℕ) → c < a.marks.chunks → is_missing a m c ≡ true → is_missing w.array x c ≡ false → EndsCheckpoint a m copied c → ⊥
   no_stop x at c low was now stops =
       let then : (is_set a.marks.bytes c || not (is_passed (geometry_of a) after c)) ≡ false = sym (lacks_after x at c) ∙ now in
       let before : (is_set a.marks.bytes c || not (has_passed a m c)) ≡ true = sym (lacks_before c) ∙ was in

@@ -82,7 +82,7 @@ pub before_of : (target : ℕ) (e : Event) → IsBeforeEnrol target e → IsOfRe
 before_of target (Event.Enrol k role listed) of = absurd of
 before_of target e of = of
 
-storing_of : (target : ℕ) (e : Event) → IsStoring e → IsOfRebuild target e
+pub storing_of : (target : ℕ) (e : Event) → IsStoring e → IsOfRebuild target e
 storing_of target e of = before_of target e (storing_before target e of)
 
 -- ---- lists of events
@@ -135,7 +135,7 @@ pub as_such : (Of Such : Event → Type 0) → ((e : Event) → Of e → Such e)
 as_such Of Such f es old new g = record { steps = all_such Of Such f es g.steps; leads = g.leads; requests = g.requests; sound = g.sound; pending = g.pending }
 
 -- events of a part of the call
-gone_leads : (Of : Event → Type 0) (old new : MirrorView) (g : GoesOn only_others only_others Of old new) → LeadsIn Of g.events old new
+pub gone_leads : (Of : Event → Type 0) (old new : MirrorView) (g : GoesOn only_others only_others Of old new) → LeadsIn Of g.events old new
 gone_leads Of old new g = record { steps = g.steps; leads = g.leads; requests = g.array.requests; sound = g.sound; pending = g.pending }
 
 pub storing_leads : (target : ℕ) (old new : MirrorView) (g : GoesOn only_others only_others IsStoring old new) → LeadsIn (IsBeforeEnrol target) g.events old new
@@ -200,7 +200,7 @@ module _ (target : ℕ) where
   are_stored : (old new : MirrorView) (h : StoresFirst old new) → AreStored h.stores.goes.events
   are_stored old new h = record { stores = h.stores.goes.steps; unfailing = h.stores.unfailing }
 
-  either_list : (old ready : MirrorView) (h : StoresFirst old ready ⊎ AdmitsFirst target old ready) → AreStored (events_either h) ⊎ AreOfAdmission target (events_either h)
+  pub either_list : (old ready : MirrorView) (h : StoresFirst old ready ⊎ AdmitsFirst target old ready) → AreStored (events_either h) ⊎ AreOfAdmission target (events_either h)
   either_list old ready (inl h) = inl (are_stored old ready h)
   either_list old ready (inr h) =
       inr (record {
@@ -407,7 +407,7 @@ module _ (target : ℕ) (none : Bitmap) (old mid : MirrorView) where
   lowering_events (inl to) = Event.LowerOffset target to.sector ∷ []
   lowering_events (inr same) = []
 
-  lowering_list : (h : LowersTarget target none old mid) → AreOfLowering target (lowering_events h)
+  pub lowering_list : (h : LowersTarget target none old mid) → AreOfLowering target (lowering_events h)
   lowering_list (inl to) = inr (to.sector, refl)
   lowering_list (inr same) = inl refl
 

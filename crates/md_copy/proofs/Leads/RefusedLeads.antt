@@ -70,7 +70,7 @@ module _ (target : ℕ) where
   abbrev pub Unfinished : Event → Type 0
   Unfinished = IsOfUnfinished target
 
-  as_unfinished : (es : List Event) (old new : MirrorView) → LeadsIn (Before target) es old new → LeadsIn Unfinished es old new
+  pub as_unfinished : (es : List Event) (old new : MirrorView) → LeadsIn (Before target) es old new → LeadsIn Unfinished es old new
   as_unfinished es old new g = as_such (Before target) Unfinished (unfinished_of target) es old new g
 
   unspoiled : (es : List Event) → AllOf (Before target) es → IsListOfUnfinished target es
@@ -78,27 +78,27 @@ module _ (target : ℕ) where
 
   -- ---- where events lead
   -- with what is told of them
-  record LeadsSo (old new : MirrorView) (Tells : LeadsOrHalts Unfinished old new → Type 0) : Type 0 where
-    goes : LeadsOrHalts Unfinished old new
-    list : IsListOfUnfinished target goes.leads.events
-    tells : Tells goes
+  pub record LeadsSo (old new : MirrorView) (Tells : LeadsOrHalts Unfinished old new → Type 0) : Type 0 where
+    pub goes : LeadsOrHalts Unfinished old new
+    pub list : IsListOfUnfinished target goes.leads.events
+    pub tells : Tells goes
 
   -- to the end of the call
-  abbrev LeadsTo : MirrorView → MirrorView → (List Event → Type 0) → Type 0
+  abbrev pub LeadsTo : MirrorView → MirrorView → (List Event → Type 0) → Type 0
   LeadsTo old new Tells = LeadsSo old new (λ goes. (goes.last ≡ new) × Tells goes.leads.events)
 
-  leads_there : {es : List Event} (old new : MirrorView) (Tells : List Event → Type 0) → Tells es → LeadsIn (Before target) es old new → LeadsTo old new Tells
+  pub leads_there : {es : List Event} (old new : MirrorView) (Tells : List Event → Type 0) → Tells es → LeadsIn (Before target) es old new → LeadsTo old new Tells
   leads_there {es} old new Tells tells g = record {
     goes = record { last = new; ends = inl refl; leads = leads_by (as_unfinished es old new g) };
     list = unspoiled es g.steps;
     tells = (refl, tells);
   }
 
-  none : (old new : MirrorView) → IsConsistent old → new ≡ old → LeadsTo old new (λ events. events ≡ [])
+  pub none : (old new : MirrorView) → IsConsistent old → new ≡ old → LeadsTo old new (λ events. events ≡ [])
   none old new sound same = leads_there old new (λ events. events ≡ []) refl (subst (LeadsIn (Before target) [] old) (sym same) (none_lead (Before target) old sound))
 
   -- to a mirror whose target is spoiled then
-  leads_spoiled : {es : List Event} (old mid new : MirrorView) (Tells : List Event → Type 0) → Tells (es ++ Event.SpoilTarget target ∷ []) → LeadsIn (Before target) es old mid → SpoilsTarget target mid new → IsConsistent new
+  pub leads_spoiled : {es : List Event} (old mid new : MirrorView) (Tells : List Event → Type 0) → Tells (es ++ Event.SpoilTarget target ∷ []) → LeadsIn (Before target) es old mid → SpoilsTarget target mid new → IsConsistent new
       → LeadsTo old new Tells
   leads_spoiled {es} old mid new Tells tells g s sound = record {
     goes = record {
@@ -112,18 +112,18 @@ module _ (target : ℕ) where
     tells = (refl, tells);
   }
 
-  abbrev Spoils : List Event → Type 0
+  abbrev pub Spoils : List Event → Type 0
   Spoils = EventsEndWith (Event.SpoilTarget target)
 
   -- ---- a write to a member that failed
   -- it is the last event
-  record IsLastOf (k : ℕ) (events : List Event) : Type 0 where
-    before : List Event
-    failing : Event
-    of : IsFailureOf k failing
-    list : events ≡ before ++ failing ∷ []
+  pub record IsLastOf (k : ℕ) (events : List Event) : Type 0 where
+    pub before : List Event
+    pub failing : Event
+    pub of : IsFailureOf k failing
+    pub list : events ≡ before ++ failing ∷ []
 
-  last_after : (k : ℕ) (es fs : List Event) → FailsAtLast k fs → IsLastOf k (es ++ fs)
+  pub last_after : (k : ℕ) (es fs : List Event) → FailsAtLast k fs → IsLastOf k (es ++ fs)
   last_after k es fs last = record {
     before = es ++ last.before;
     failing = last.failing;
@@ -141,7 +141,7 @@ module _ (target : ℕ) where
     list = ap (λ (xs : List Event). xs ++ after) last.list ∙ append_assoc last.before (last.failing ∷ []) after;
   }
 
-  abbrev LeadsMember : ℕ → MirrorView → MirrorView → Type 0
+  abbrev pub LeadsMember : ℕ → MirrorView → MirrorView → Type 0
   LeadsMember k old new = LeadsSo old new (λ goes. TellsMember target k goes.leads.events goes.ends)
 
   -- to right after it, or to what came after it
@@ -181,21 +181,21 @@ module _ (target : ℕ) where
 
   -- ---- where a rebuild ended, and how far it came is recorded
   -- Events led there, and the target is recovering if the mirror runs.
-  record ComesTo (old stopped : MirrorView) : Type 0 where
-    events : List Event
-    leads : LeadsIn (Before target) events old stopped
-    recovers : stopped.array.halted ≡ false → (m : MemberView) → IsMember stopped.array target m → is_recovering m.state ≡ true
+  pub record ComesTo (old stopped : MirrorView) : Type 0 where
+    pub events : List Event
+    pub leads : LeadsIn (Before target) events old stopped
+    pub recovers : stopped.array.halted ≡ false → (m : MemberView) → IsMember stopped.array target m → is_recovering m.state ≡ true
 
   -- Or they led to right before a write that halted the mirror.
-  record HaltsAtEnd (old stopped : MirrorView) : Type 0 where
-    events : List Event
-    last : MirrorView
-    leads : LeadsIn (Before target) events old last
-    halts : HaltsIn (Before target) last stopped
-    halted : stopped.array.halted ≡ true
+  pub record HaltsAtEnd (old stopped : MirrorView) : Type 0 where
+    pub events : List Event
+    pub last : MirrorView
+    pub leads : LeadsIn (Before target) events old last
+    pub halts : HaltsIn (Before target) last stopped
+    pub halted : stopped.array.halted ≡ true
 
   -- as a write to member k failed
-  abbrev StopsSo : ℕ → MirrorView → MirrorView → Type 0
+  abbrev pub StopsSo : ℕ → MirrorView → MirrorView → Type 0
   StopsSo k old stopped = ((c : ComesTo old stopped) × IsLastOf k c.events) ⊎ ((e : HaltsAtEnd old stopped) × IsFailureOf k e.halts.failing)
 
   -- one that is halted is left as it is
@@ -210,7 +210,7 @@ module _ (target : ℕ) where
   ]
 
   -- a fault that halts nothing
-  left_there : (copied : Bitmap) (old stopped new : MirrorView) → ComesTo old stopped → (left : RecordsAtEnd target copied stopped new) → IsConsistent new → LeadsTo old new (TellsLeaving left)
+  pub left_there : (copied : Bitmap) (old stopped new : MirrorView) → ComesTo old stopped → (left : RecordsAtEnd target copied stopped new) → IsConsistent new → LeadsTo old new (TellsLeaving left)
   left_there copied old stopped new c (inl same) sound = leads_there old new (λ events. Unit {0}) tt (subst (LeadsIn (Before target) c.events old) (sym same.1) c.leads)
   left_there copied old stopped new c (inr (inl r)) sound =
       leads_there old new (λ events. (offset : ℕ) × (listed : ℕ → Bool) × EventsEndWith (Event.Checkpoint target offset listed) events) (r.sure, listed_on new target, (c.events, refl))
@@ -229,7 +229,7 @@ module _ (target : ℕ) where
   left_member k copied old stopped new c last (inr (inr f)) sound =
       member_spoiled k c.events old stopped new last c.leads (checkpoint_spoils target copied stopped new c.leads.sound f (c.recovers f.running f.member f.at)) sound
 
-  left_leads : (k : ℕ) (copied : Bitmap) (old stopped new : MirrorView) → StopsSo k old stopped → RecordsAtEnd target copied stopped new → IsConsistent new → LeadsMember k old new
+  pub left_leads : (k : ℕ) (copied : Bitmap) (old stopped new : MirrorView) → StopsSo k old stopped → RecordsAtEnd target copied stopped new → IsConsistent new → LeadsMember k old new
   left_leads k copied old stopped new (inl (c, last)) left sound = left_member k copied old stopped new c last left sound
   left_leads k copied old stopped new (inr (e, named)) left sound =
       subst (LeadsMember k old) (sym (same_left copied stopped new left e.halted)) (leads_halted k old e.last stopped e.leads e.halts named)

@@ -91,7 +91,7 @@ preserves_filled target v copied so slots may w f =
     missing_beside target v copied so slots may d.content e.content (f.on_target d e at_d at_e).same i n
     (subst (λ (z : MemberView). IsBesideMissing v.array z i n) (same_Some l may.member (sym at_l ∙ may.at)) h.beside))
 
-filled_stays : (target : ℕ) (m : MemberView) (slots : List Slot) (v w : MirrorView) → IsFilling target m slots v w → (k : ℕ) (d e : Disk) → slice_get v.disks k ≡ Some d → slice_get w.disks k ≡ Some e
+pub filled_stays : (target : ℕ) (m : MemberView) (slots : List Slot) (v w : MirrorView) → IsFilling target m slots v w → (k : ℕ) (d e : Disk) → slice_get v.disks k ≡ Some d → slice_get w.disks k ≡ Some e
     → StaysHonest d e
 filled_stays target m slots v w f k d e at_d at_e = elim (cases_eq k target) [
   | inl here ↦
@@ -105,7 +105,7 @@ one_preserves target slots before after v x h so =
     preserves_on target v h.filled x (preserves_filled target v before so slots h.makes.may h.filled h.makes.copies.filling)
     (preserves_recorded target after h.filled x h.makes.sound h.checkpoints)
 
-stretches_preserve : (target : ℕ) (rounds : List ℕ) (slots left : List Slot) (before after : Bitmap) (v x : MirrorView) → AreRecorded target rounds slots left before after v x → HoldsSoFar target v before []
+pub stretches_preserve : (target : ℕ) (rounds : List ℕ) (slots left : List Slot) (before after : Bitmap) (v x : MirrorView) → AreRecorded target rounds slots left before after v x → HoldsSoFar target v before []
     → Preserves target v x
 stretches_preserve target [] slots left before after v x h so = subst (Preserves target v) (sym h.2) (preserves_none target v)
 stretches_preserve target (round ∷ rounds) slots left before after v x h so =
@@ -402,7 +402,7 @@ fails_after target k listed failed old mid new pre g fails d f at_d at_f honest 
     let less = fails e.0 f e.1 at_f (g.honest k d e.0 at_d e.1 ∙ honest) in
     omega (arith, first, less)
 
-fails_rest : (target k : ℕ) (old mid new : MirrorView) → KeepsRest target old mid → AtDevice k mid.disks new.disks (λ d e. d.honest ≡ true → d.failures < e.failures) → AtDevice k old.disks new.disks (CountsFailure of_disks)
+pub fails_rest : (target k : ℕ) (old mid new : MirrorView) → KeepsRest target old mid → AtDevice k mid.disks new.disks (λ d e. d.honest ≡ true → d.failures < e.failures) → AtDevice k old.disks new.disks (CountsFailure of_disks)
 fails_rest target k old mid new rest fails d f at_d at_f honest =
     let e = rest.disk_then k d at_d in
     let first = rest.counted k d e.0 at_d e.1 in

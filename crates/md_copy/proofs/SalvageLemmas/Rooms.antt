@@ -1,0 +1,85 @@
+-- Lists that are made on trial: each is the only one of its sectors.
+use Rattle.std.proofs.Common.{◌≡◌, ◌∙◌, ◌↔◌, ℕ, ◌+◌, ◌<◌, ◌≤◌, Bool, true, false, leb, leb-true, le-leb, List, length, IfOk, Ok, Err, Result, sym, ap, subst, arith, inl, inr}
+use Rattle.std.proofs.lemmas.Bool.{both_ways, cases_eq}
+use Rattle.std.proofs.lemmas.Option.{same_Some, slice_get_within}
+use Rattle.md_assembly.specs.States.{is_in_sync}
+use Rattle.md_badblocks.specs.declared.run.Run.{Run}
+use Rattle.md_badblocks.specs.Runs.{entries_needed}
+use Rattle.md_badblocks.proofs.Unique.{same_runs}
+use Rattle.md_bitmap.specs.declared.chunks.Chunks.{Chunks}
+use Rattle.md_bitmap.specs.Marks.{Bitmap}
+use Rattle.md_kept_members.specs.Enrolling.{HasRoomFor, log_room}
+use Rattle.md_kept_members.specs.SectorLists.{IsListMore, IsListOf, in_chunks_but, in_runs}
+use Rattle.md_kept_members.specs.View.{MemberView}
+use Rattle.md_state.specs.Members.{IsMember}
+use Rattle.md_state.specs.View.{ArrayView}
+use Rattle.md_copy.specs.Salvaging.Fitting.{HasOwnRoom, HasRoomIfInSync, HaveRoomFor}
+use Rattle.md_copy.specs.Salvaging.Widened.{IsWidened}
+
+pub one_more : (more : ℕ → Bool) (m : MemberView) (a b : List Run) → IsListMore more m a → IsListMore more m b → a ≡ b
+one_more more m a b p q = same_runs 0 0 a b p.canonical q.canonical (λ s bad. (q.bad s).1 ((p.bad s).0 bad)) (λ s bad. (p.bad s).1 ((q.bad s).0 bad))
+
+pub one_of : (copied lost : ℕ → Bool) (m : MemberView) (a b : List Run) → IsListOf copied lost m a → IsListOf copied lost m b → a ≡ b
+one_of copied lost m a b p q = same_runs 0 0 a b p.canonical q.canonical (λ s bad. (q.bad s).1 ((p.bad s).0 bad)) (λ s bad. (p.bad s).1 ((q.bad s).0 bad))
+
+pub one_widened : (gap : ℕ) (chunks : Chunks) (missing : Bitmap) (lost a b : List Run) → IsWidened gap chunks missing lost a → IsWidened gap chunks missing lost b → a ≡ b
+one_widened gap chunks missing lost a b p q = same_runs 0 0 a b p.canonical q.canonical (λ s bad. (q.bad s).1 ((p.bad s).0 bad)) (λ s bad. (p.bad s).1 ((q.bad s).0 bad))
+
+-- ---- one log
+module _ (a : ArrayView) (listed : List Run) (k : ℕ) (m : MemberView) (at : IsMember a k m) where
+  same_member : (n : MemberView) → IsMember a k n → n ≡ m
+  same_member n there = same_Some n m (sym there ∙ at)
+
+  -- the member is not in sync
+  pub room_out : is_in_sync m.state ≡ false → HasRoomIfInSync a listed k
+  room_out out n list is more = absurd (both_ways (is_in_sync n.state) (ap (λ (x : MemberView). is_in_sync x.state) (same_member n is.member) ∙ out) is.in_sync)
+
+  pub room_more : is_in_sync m.state ≡ true → (list : List Run) → IsListMore (in_runs listed) m list → leb (entries_needed list) (log_room m.superblock) ≡ true ↔ HasRoomIfInSync a listed k
+  room_more in_sync list made = (
+    λ yes n other is more.
+        let fits : HasRoomFor m.superblock list = leb-true (entries_needed list) (log_room m.superblock) yes in
+        let same = same_member n is.member in
+        subst (λ (x : MemberView). HasRoomFor x.superblock other) (sym same)
+        (subst (HasRoomFor m.superblock) (one_more (in_runs listed) m list other made (subst (λ (x : MemberView). IsListMore (in_runs listed) x other) same more)) fits),
+    λ has. le-leb (entries_needed list) (log_room m.superblock) (has m list (record { member = at; in_sync = in_sync }) made),
+  )
+
+  pub room_own : (missing : Bitmap) (list : List Run) → IsListOf (in_chunks_but a.chunks missing listed) (in_runs listed) m list
+      → leb (entries_needed list) (log_room m.superblock) ≡ true ↔ HasOwnRoom k missing a listed
+  room_own missing list made = (
+    λ yes n other there is.
+        let fits : HasRoomFor m.superblock list = leb-true (entries_needed list) (log_room m.superblock) yes in
+        let same = same_member n there in
+        subst (λ (x : MemberView). HasRoomFor x.superblock other) (sym same)
+        (subst (HasRoomFor m.superblock)
+        (one_of (in_chunks_but a.chunks missing listed) (in_runs listed) m list other made (subst (λ (x : MemberView). IsListOf (in_chunks_but a.chunks missing listed) (in_runs listed) x other) same is)) fits),
+    λ has. le-leb (entries_needed list) (log_room m.superblock) (has m list at made),
+  )
+
+-- ---- all logs
+abbrev pub HaveRoomBelow : ℕ → ArrayView → List Run → Type 0
+HaveRoomBelow n a listed = (k : ℕ) → k < n → HasRoomIfInSync a listed k
+
+pub rooms_more : (n : ℕ) (a : ArrayView) (listed : List Run) → HaveRoomBelow n a listed → HasRoomIfInSync a listed n → HaveRoomBelow (n + 1) a listed
+rooms_more n a listed before this k low = elim (cases_eq k n) [ inl here ↦ subst (HasRoomIfInSync a listed) (sym here) this | inr other ↦ before k (omega (arith, low, other)) ]
+
+pub rooms_all : (n : ℕ) (a : ArrayView) (listed : List Run) → length a.members ≤ n → HaveRoomBelow n a listed → (k : ℕ) → HasRoomIfInSync a listed k
+rooms_all n a listed all before k m list is more = let low = slice_get_within a.members k m is.member in before k (omega (arith, low, all)) m list is more
+
+-- ---- the gap
+abbrev pub AreTooSmall : ℕ → ℕ → Bitmap → List Run → ArrayView → Type 0
+AreTooSmall gap target missing lost a = (less : ℕ) (other : List Run) → less < gap → IsWidened less a.chunks missing lost other → HaveRoomFor target missing a other → ⊥
+
+pub small_more : (gap target : ℕ) (missing : Bitmap) (lost : List Run) (a : ArrayView) (listed : List Run) → AreTooSmall gap target missing lost a → IsWidened gap a.chunks missing lost listed
+    → (HaveRoomFor target missing a listed → ⊥) → AreTooSmall (gap + 1) target missing lost a
+small_more gap target missing lost a listed before widened none less other low is room = elim (cases_eq less gap) [
+  | inl here ↦
+      let same = one_widened gap a.chunks missing lost other listed (subst (λ n. IsWidened n a.chunks missing lost other) here is) widened in
+      none (subst (HaveRoomFor target missing a) same room)
+  | inr more ↦ before less other (omega (arith, low, more)) is room
+]
+
+-- what holds on Ok, by what holds then
+pub if_ok : {T E : Type 0} {P Q : T → Type 0} (r : Result T E) → ((x : T) → P x → Q x) → IfOk r P → IfOk r Q
+if_ok (Ok x) f p = f x p
+if_ok (Err e) f p = p

@@ -1,0 +1,85 @@
+-- What stands after a salvage that is refused, fault by fault, in plain terms, whatever the steps were (this project's own).
+use Rattle.std.specs.Prelude.{◌≡◌, ◌≢◌, ◌⊎◌, ℕ, ◌+◌, ◌≤◌, ◌<◌, true, false, List, slice_get, Some}
+use Rattle.md_assembly.specs.States.{is_recovering, is_spare}
+use Rattle.md_badblocks.specs.declared.run.Run.{Run}
+use Rattle.md_badblocks.specs.Runs.{IsBad}
+use Rattle.md_collect.specs.Reading.{CountsFailure}
+use Rattle.md_device.specs.Splice.{part}
+use Rattle.md_bitmap.specs.Marks.{Bitmap}
+use Rattle.md_kept_members.specs.Enrolling.{log_room}
+use Rattle.md_kept_members.specs.SectorLists.{in_chunks_but, in_runs}
+use Rattle.md_kept_members.specs.View.{MemberView}
+use Rattle.md_read.specs.Reading.{NoneGives}
+use Rattle.md_state.specs.DiskWrites.{AtDevice}
+use Rattle.md_state.specs.Members.{IsInSync, IsMember}
+use Rattle.md_state.specs.Steps.Enrol.{HasFullLog}
+use Rattle.md_state.specs.Steps.NoteBad.{HasFullLogForMore}
+use Rattle.md_state.specs.View.{ArrayView, Disk, MirrorView, of_disks}
+use Rattle.md_copy.specs.Refused.{HasHalted, IsBesideLacking, IsLost, IsNothingDone, OtherMembersKeep, StatesStay}
+use Rattle.md_copy.specs.Salvaging.Widened.{IsWidened}
+use Rattle.md_copy.specs.Salvaging.Sectors.{IsLacked}
+use Rattle.md_copy.specs.declared.beginning.fault.RebuildFault.{RebuildFault}
+use Rattle.md_copy.specs.declared.beginning.fault.RebuildFault.TheVariants.{Halted, NotSpare, Dirty, InFlight, LogFull, NoMemory, TargetFault, MetadataFault, EventsFull}
+
+-- Sectors that no member in sync gave in this call, and those that were to be listed: these and such as lie close between two of them.
+pub record AreLostSoFar (target : ℕ) (m : MemberView) (lost listed : List Run) (old new : MirrorView) : Type 0 where
+  pub none : (s : ℕ) → IsBad lost s → IsLacked old.array m s × NoneGives s old new
+  pub gap : ℕ
+  pub widest : gap ≤ 510
+  pub missing : Bitmap
+  pub widened : IsWidened gap old.array.chunks missing lost listed
+  pub lacked : (s : ℕ) → IsBad listed s → IsLacked old.array m s
+
+-- The list of each other member grew at most by these, and only where it was in sync.
+pub record ListsGrowWithin (target : ℕ) (listed : List Run) (old new : ArrayView) : Type 0 where
+  pub in_sync : (k : ℕ) (m n : MemberView) → k ≢ target → IsInSync old k m → IsMember new k n
+      → (sector : ℕ) → IsBad n.bad sector → IsBad m.bad sector ⊎ ((s : ℕ) × IsBad listed s × (sector ≡ m.superblock.data_offset + s))
+  pub kept : (k : ℕ) (m n : MemberView) → k ≢ target → IsMember old k m → IsMember new k n → (sector : ℕ) → IsBad m.bad sector → IsBad n.bad sector
+  pub out : (k : ℕ) (m n : MemberView) → k ≢ target → IsMember old k m → (IsInSync old k m → ⊥) → IsMember new k n → n.bad ≡ m.bad
+
+-- The target has no log, and nothing was done.
+pub record LacksLog (target k : ℕ) (m : MemberView) (old new : MirrorView) : Type 0 where
+  pub own : k ≡ target
+  pub none : log_room m.superblock ≡ 0
+  pub unchanged : new ≡ old
+
+-- The log of member k, the target or one in sync, has no room for its list with what is to be listed, though runs are united as far as that saves entries.
+-- (Nothing need be lost: a log that was read with a shift may have no room for what the target lists already.)
+pub record LacksRoomForLost (target k : ℕ) (listed : List Run) (gap : ℕ) (old new : MirrorView) : Type 0 where
+  pub running : new.array.halted ≡ false
+  pub united : gap ≡ 510
+  pub full : ((k ≡ target) × ((missing : Bitmap) × HasFullLog k (in_chunks_but old.array.chunks missing listed) (in_runs listed) new.array)) ⊎ HasFullLogForMore k (in_runs listed) new.array
+
+abbrev pub EndsSalvageSo : (target : ℕ) → RebuildFault → MemberView → (listed : List Run) → (gap : ℕ) → MirrorView → MirrorView → Type 0
+EndsSalvageSo target Halted m listed gap old new = IsNothingDone true old new
+EndsSalvageSo target NotSpare m listed gap old new = IsNothingDone false old new
+EndsSalvageSo target Dirty m listed gap old new = IsNothingDone false old new
+EndsSalvageSo target (InFlight number) m listed gap old new = IsNothingDone false old new
+EndsSalvageSo target EventsFull m listed gap old new = IsNothingDone false old new
+EndsSalvageSo target TargetFault m listed gap old new = (new.array.halted ≡ false) × AtDevice target old.disks new.disks (CountsFailure of_disks)
+EndsSalvageSo target NoMemory m listed gap old new = new.array.halted ≡ false
+EndsSalvageSo target (LogFull k) m listed gap old new = LacksLog target k m old new ⊎ LacksRoomForLost target k listed gap old new
+EndsSalvageSo target (MetadataFault k) m listed gap old new = (k ≢ target) × (IsLost k old.array new.array ⊎ HasHalted k old new)
+
+-- Whatever the fault is: the target is in the state in which it was, or it was a spare and is recovering. How far it is rebuilt is no less than before, its
+-- list is as before, and so are its data beside what it lacked. The data of all other members are as before, their lists grew at most by what was to be
+-- listed, and their states are as before, but for the one that the fault names where a write to it failed. The marks in memory are as before.
+pub record HasNotSalvaged (target : ℕ) (fault : RebuildFault) (old new : MirrorView) : Type 0 where
+  pub member : MemberView
+  pub at : IsMember old.array target member
+  pub now : MemberView
+  pub there : IsMember new.array target now
+  pub state : (now.state ≡ member.state) ⊎ ((is_spare member.state ≡ true) × (is_recovering now.state ≡ true))
+  pub offset : is_recovering member.state ≡ true → member.offset ≤ now.offset
+  pub list : now.bad ≡ member.bad
+  pub beside : (d e : Disk) → slice_get old.disks target ≡ Some d → slice_get new.disks target ≡ Some e
+      → (at n : ℕ) → IsBesideLacking old.array member at n → part e.content at n ≡ part d.content at n
+  pub others : OtherMembersKeep target fault old new
+  pub lost : List Run
+  pub listed : List Run
+  pub so_far : AreLostSoFar target member lost listed old new
+  pub lists : ListsGrowWithin target listed old.array new.array
+  pub still : StatesStay target fault old.array new.array
+  pub marks : new.array.marks ≡ old.array.marks
+  pub resynced : new.array.resynced ≡ old.array.resynced
+  pub so : EndsSalvageSo target fault member listed so_far.gap old new
