@@ -16,12 +16,12 @@ from sweeping import MOST, sweep
 SECONDS = 60
 
 # The crates, and which of their tests are not swept: those that play every order of steps, or sessions by the thousand, which make the
-# calls of the others thousands of times, those that plan large tables, which take long, and those that crash an array at each write, or
-# many times.
+# calls of the others thousands of times, those that plan large tables or salvage hundreds of bad sectors, or into a full log, which take long, and those that
+# crash an array at each write, or many times.
 SUITES = {
     "part_tests": r"plans::large_tables::|nbd_spoiled::",
     "step_tests": r"\w+::every_order::",
-    "call_tests": None,
+    "call_tests": r"salvages::|listed_sectors::|salvage_rows::refused",
     "crash_tests": r"each_write::|lives::",
     "command_tests": None,
 }
