@@ -38,10 +38,10 @@ use crate::random::bytes_if_needed;
 use crate::standard_input::bytes_left_if_taken;
 use clap::Error;
 use md_cli::{Session, run};
-use md_commands::{Input, Source};
+use md_commands::Input;
 use md_examine::{Buffered, Sink};
 use md_files::{Cleared, CodedJson, Line, MapText, MaskedImages};
-use md_messages::{Asker, Messages};
+use md_messages::Messages;
 use md_outputs::{Names, identity_of, resumed_of};
 use md_read_commands::Gaps;
 use md_words::{LongTask, Request, parse};
@@ -97,7 +97,8 @@ struct Setting<'a, T> {
     progress: &'a Progress<'a>,
 }
 
-// Does what the words ask for, and says how.
+// Does what the words ask for, and says how: lays the maps over the images, opens or makes the files of a read, and leaves the rest
+// to `run`.
 fn obey<'a, 'b, T: Threads + Wait + Sync>(
     setting: &'b Setting<'b, T>,
     words: &'a [&'a str],
@@ -109,16 +110,44 @@ fn obey<'a, 'b, T: Threads + Wait + Sync>(
     requires bitmap { IfOk parsed (λ r. option_map (λ s. s.now) r.bitmap ≡ bitmap_word (texts words.now)) }
     requires fails { FailsBy (words_fault (texts words.now)) parsed }
 {
-    let mut err = Cleared::new(setting.rt.stderr(), setting.progress, true);
+    let (rt, messages) = (setting.rt, setting.messages);
+    let mut err = Cleared::new(rt.stderr(), setting.progress, true);
     if parsed.is_err() {
         // The parser's text has the words as they are.
         err.code_text();
     }
     let masked = masked_of(setting, &parsed, &mut err);
-    let Some(masked) = masked else {
+    let Some(Masked { mut images, texts }) = masked else {
         return REFUSED;
     };
-    obey_over(setting, words, parsed, masked, person, &mut err)
+    // Output that goes elsewhere leaves the line of progress as it is.
+    let standard = Cleared::new(io::writer(rt), setting.progress, rt.stdout().is_terminal());
+    let opened = opened_for(setting, &parsed, &texts, standard, &mut err);
+    let Some(opened) = opened else {
+        return REFUSED;
+    };
+    let ending = Ending::begin(rt, &parsed, messages, &mut err);
+    let Some(ending) = ending else {
+        let (output, names) = (output_of(&parsed), Names::of_parsed(&parsed));
+        let _ = is_output_ended(opened.outputs, output, names, messages, &mut err);
+        return REFUSED;
+    };
+    let Ran {
+        status,
+        outputs,
+        of_all,
+    } = run_into(
+        setting,
+        words,
+        parsed,
+        &mut images,
+        opened,
+        person,
+        &mut err,
+    );
+    let count = setting.progress.sectors_to_read();
+    let is_done = ending.is_done(rt, outputs, count, of_all, messages, &mut err);
+    if is_done { status } else { REFUSED }
 }
 
 // Lays the maps over the images. Says on `err` why it can't.
@@ -141,45 +170,6 @@ fn masked_of<'a, T, F, E: Write + Sink>(
             None
         }
     }
-}
-
-// Opens or makes the files of a read, and leaves the rest to `run`.
-fn obey_over<'a, 'b, T: Threads + Wait + Sync, E: Write + Sink>(
-    setting: &'b Setting<'b, T>,
-    words: &'a [&'a str],
-    parsed: Result<Request<'a>, Error>,
-    masked: Masked<'b>,
-    person: Person,
-    err: &mut E,
-) -> u8
-    requires asks { IfOk parsed (λ r. ask_of r.command ≡ asked (texts words.now)) }
-    requires images { IfOk parsed (λ r. texts r.images.items ≡ image_words (texts words.now)) }
-    requires bitmap { IfOk parsed (λ r. option_map (λ s. s.now) r.bitmap ≡ bitmap_word (texts words.now)) }
-    requires fails { FailsBy (words_fault (texts words.now)) parsed }
-{
-    let Masked { mut images, texts } = masked;
-    let (rt, messages) = (setting.rt, setting.messages);
-    // Output that goes elsewhere leaves the line of progress as it is.
-    let standard = Cleared::new(io::writer(rt), setting.progress, rt.stdout().is_terminal());
-    let opened = opened_for(setting, &parsed, &texts, standard, err);
-    let Some(opened) = opened else {
-        return REFUSED;
-    };
-    let ending = Ending::begin(rt, &parsed, messages, err);
-    let Some(ending) = ending else {
-        let (output, names) = (output_of(&parsed), Names::of_parsed(&parsed));
-        let _ = is_output_ended(opened.outputs, output, names, messages, err);
-        return REFUSED;
-    };
-    let ran = run_into(setting, words, parsed, &mut images, opened, person, err);
-    let Ran {
-        status,
-        outputs,
-        of_all,
-    } = ran;
-    let count = setting.progress.sectors_to_read();
-    let is_done = ending.is_done(rt, outputs, count, of_all, messages, err);
-    if is_done { status } else { REFUSED }
 }
 
 // Opens or makes the file of a read, if one is asked for, or says on `err` why it can't; these are the maps.
@@ -207,7 +197,7 @@ struct Ran<'a, S: Drop> {
     of_all: Option<Gaps>,
 }
 
-// Runs the command.
+// Runs the command, over all block devices where `scan` is given none, and says how far it came.
 fn run_into<'a, 'b, T: Threads + Wait + Sync, S: Sink + Drop, E: Write + Sink>(
     setting: &'b Setting<'b, T>,
     words: &'a [&'a str],
@@ -243,7 +233,12 @@ fn run_into<'a, 'b, T: Threads + Wait + Sync, S: Sink + Drop, E: Write + Sink>(
         stands,
         mismatched: None,
     };
-    let status = run_or_scan(setting, &mut session, words, parsed, images, err);
+    let status = match scan_of_all(&parsed) {
+        Some(json) => scan_devices(setting, json, &mut session.out, err),
+        None => run(&mut session, words, parsed, images, err, setting.messages),
+    };
+    progress.clear();
+    tell_standing(progress.sectors_standing(), err);
     let Session {
         out,
         gaps,
@@ -257,39 +252,15 @@ fn run_into<'a, 'b, T: Threads + Wait + Sync, S: Sink + Drop, E: Write + Sink>(
     }
 }
 
-// Runs the command, over all block devices where `scan` is given none, and says how far it came.
-fn run_or_scan<
-    'a,
-    'b,
-    T: Threads + Wait + Sync,
-    R: Source + Drop,
-    S: Sink + Drop,
-    A: Asker + Drop,
-    E: Write + Sink,
->(
-    setting: &'b Setting<'b, T>,
-    session: &mut Session<'b, T, R, S, Progress<'b>, A>,
-    words: &'a [&'a str],
-    parsed: Result<Request<'a>, Error>,
-    images: &mut MaskedImages<FileImages<'b>>,
+// Shows of which arrays all block devices are members.
+fn scan_devices<T, S: Sink, E: Write + Sink>(
+    setting: &Setting<'_, T>,
+    json: bool,
+    out: &mut S,
     err: &mut E,
-) -> u8
-    requires asks { IfOk parsed (λ r. ask_of r.command ≡ asked (texts words.now)) }
-    requires images { IfOk parsed (λ r. texts r.images.items ≡ image_words (texts words.now)) }
-    requires bitmap { IfOk parsed (λ r. option_map (λ s. s.now) r.bitmap ≡ bitmap_word (texts words.now)) }
-    requires fails { FailsBy (words_fault (texts words.now)) parsed }
-{
-    let (rt, messages, progress) = (setting.rt, setting.messages, setting.progress);
-    let status = match scan_of_all(&parsed) {
-        Some(json) => {
-            let mut devices = FileImages::new(rt, progress);
-            scan_all(rt, json, messages, &mut devices, &mut session.out, err)
-        }
-        None => run(session, words, parsed, images, err, messages),
-    };
-    progress.clear();
-    tell_standing(progress.sectors_standing(), err);
-    status
+) -> u8 {
+    let mut devices = FileImages::new(setting.rt, setting.progress);
+    scan_all(setting.rt, json, setting.messages, &mut devices, out, err)
 }
 
 // How much is said of a refusal.
