@@ -1,10 +1,11 @@
 -- What stands after a salvage that is refused, by its steps.
 use Rattle.std.proofs.Common.{◌≡◌, ◌≢◌, ◌∙◌, ◌⊎◌, ℕ, ◌/◌, ◌<◌, Bool, true, false, List, [], slice_get, refl, sym, ap, subst, arith, inl, inr}
-use Rattle.std.proofs.lemmas.Bool.{both_ways}
+use Rattle.std.proofs.lemmas.Bool.{both_ways, cases_Bool}
 use Rattle.std.proofs.lemmas.Option.{same_Some, slice_get_within}
 use Rattle.md_assembly.proofs.Indices.{got_within}
 use Rattle.md_assembly.specs.States.{is_in_sync, is_recorded}
 use Rattle.md_badblocks.specs.declared.run.Run.{Run}
+use Rattle.md_badblocks.specs.Runs.{IsBad}
 use Rattle.md_bitmap.specs.declared.chunks.Chunks.{Chunks}
 use Rattle.md_bitmap.specs.Marks.{Bitmap}
 use Rattle.md_copy.specs.PassLaws.Passes.{PassView, slots_of_pass}
@@ -34,7 +35,7 @@ use Rattle.md_copy.specs.Refused.{HasHalted, IsLost}
 use Rattle.md_copy.specs.Salvaging.Filling.{BreaksFilling, EndsAtChunk, FillsWithin, IsTargetLeft}
 use Rattle.md_copy.specs.Salvaging.Fitting.{HaveRoomFor, IsFitting}
 use Rattle.md_copy.specs.Salvaging.Losing.{EndsNotingLost, EndsWithout, FailsWithout, NotesLost, every_role}
-use Rattle.md_copy.specs.Salvaging.Refused.{AreLostSoFar, EndsSalvageSo, HasNotSalvaged}
+use Rattle.md_copy.specs.Salvaging.Refused.{AreLostSoFar, EndsSalvageSo, HasNotSalvaged, NoListGrew}
 use Rattle.md_copy.specs.Salvaging.Sectors.{IsLacked}
 use Rattle.md_copy.specs.Salvaging.Steps.{CannotSalvage, EndsSalvageReadied, FailsWhole, FillsBut, RefusesSalvage}
 use Rattle.md_copy.specs.Salvaging.Widened.{IsWidened}
@@ -61,7 +62,6 @@ use Rattle.md_copy.proofs.SalvageLaws.SalvageMoves.{Moves, all_noted, all_stored
 use Rattle.md_copy.proofs.SalvageLaws.SalvagedFrom.{none_started}
 use Rattle.md_copy.proofs.SalvageLaws.UnsalvagedLeads.{AreRecovering, all_noted_recovers, noted_recovers}
 use Rattle.md_copy.proofs.SalvageLemmas.ChunkFilled.{IsRangeOf}
-use Rattle.md_copy.proofs.SalvageLemmas.EveryRole.{in_no_role}
 
 -- ---- how far the target is rebuilt is recorded, or not
 module _ (target : ℕ) (copied : Bitmap) (stopped new : MirrorView) where
@@ -113,6 +113,13 @@ stored_stays target fault old mid new s is = record {
   marks = ap (λ (a : ArrayView). a.marks) is ∙ s.goes.array.marks;
   resynced = ap (λ (a : ArrayView). a.resynced) is ∙ s.goes.array.resynced;
 }
+
+-- nothing was listed
+none_grew : (target : ℕ) (old new : MirrorView) → Moves target [] old new → NoListGrew target old.array new.array
+none_grew target old new x k l n other at_l at_n sector bad = elim (cases_Bool (is_in_sync l.state)) [
+  | inl on ↦ elim (x.grown k l n other (record { member = at_l; in_sync = on }) at_n sector bad) [ inl was ↦ was | inr more ↦ absurd more.1 ]
+  | inr off ↦ subst (λ (runs : List Run). IsBad runs sector) (x.out k l n other at_l (λ (is : IsInSync old.array k l). both_ways (is_in_sync l.state) off is.in_sync) at_n) bad
+]
 
 -- Up to a mirror that runs all is left as it was but for this.
 record IsAt (target : ℕ) (listed : List Run) (old v : MirrorView) : Type 0 where
@@ -439,45 +446,26 @@ module _ (target : ℕ) where
             running = all_runs;
           }
 
-          -- the target is as it was
-          own_stored : (l n : MemberView) → IsMember filled.array target l → IsMember w.stored.array target n → n ≡ l
-          own_stored l n at_l at_n = elim w.lists [
-            | inl none ↦ same_Some n l (sym at_n ∙ ap (λ (v : MirrorView). slice_get v.array.members target) none.1 ∙ at_l)
-            | inr both ↦
-                let low = slice_get_within filled.array.members target l at_l in
-                let many = both.0.goes.array.as_many in
-                let q = got_within w.noted.array.members target (omega (arith, low, many)) in
-                let same : q.0 ≡ l = (both.0.lists target l q.0 at_l q.1).alone.out (out_of_sync l.state (recovers l at_l)) in
-                elim (both.1.members target q.0 n q.1 at_n) [
-                  | inl is ↦ absurd (in_no_role q.0 (ap (λ (z : MemberView). is_in_sync z.state) same ∙ out_of_sync l.state (recovers l at_l)) is.0)
-                  | inr stays ↦ stays.1 ∙ same
-                ]
-          ]
-
         -- the target's log has no room
-        full_own : (k : ℕ) (after : Bitmap) (stopped new : MirrorView) → k ≡ target → EndsWithout target missing listed filled (λ but stored. (stopped ≡ stored) × HasFullLog target but (in_runs listed) stored.array) → RecordsAtEnd target after stopped new
+        full_own : (k : ℕ) (after : Bitmap) (stopped new : MirrorView) → k ≡ target → stopped ≡ filled → HasFullLog target (in_chunks_but filled.array.chunks missing listed) (in_runs listed) filled.array → RecordsAtEnd target after stopped new
             → HasNotSalvaged target (LogFull k) old new
-        full_own k after stopped new is w leaves =
-            let a = all_at (λ but stored. (stopped ≡ stored) × HasFullLog target but (in_runs listed) stored.array) w in
-            let leaving : RecordsAtEnd target after w.stored new = subst (λ (v : MirrorView). RecordsAtEnd target after v new) w.why.0 leaves in
-            let left = left_moves target listed after w.stored new (λ running. a.sound) leaving in
-            let full = left_full target after w.stored new (in_chunks_but filled.array.chunks missing listed) (in_runs listed) a.sound leaving w.why.1 in
+        full_own k after stopped new is same has leaves =
+            let leaving : RecordsAtEnd target after filled new = subst (λ (v : MirrorView). RecordsAtEnd target after v new) same leaves in
+            let a = filled_at listed in
+            let left = left_moves target listed after filled new (λ running. a.sound) leaving in
+            let none : Moves target [] old new = moves_on target [] old filled new (filled_at []).moves (left_moves target [] after filled new (λ running. a.sound) leaving) in
+            let full = left_full target after filled new (in_chunks_but filled.array.chunks missing listed) (in_runs listed) a.sound leaving has in
             let now : HasFullLog target (in_chunks_but old.array.chunks missing listed) (in_runs listed) new.array =
-            subst (λ (q : Chunks). HasFullLog target (in_chunks_but q missing listed) (in_runs listed) new.array) (filled_at listed).moves.pre.chunks full in
-            not_salvaged_moved target (LogFull k) lost listed old new m b.at (moves_on target listed old w.stored new a.moves left)
-            (far new (moves_on target listed filled w.stored new (all_moves (λ but stored. (stopped ≡ stored) × HasFullLog target but (in_runs listed) stored.array) w) left))
+            subst (λ (q : Chunks). HasFullLog target (in_chunks_but q missing listed) (in_runs listed) new.array) a.moves.pre.chunks full in
+            not_salvaged_moved target (LogFull k) lost listed old new m b.at (moves_on target listed old filled new a.moves left) (far new left)
             (inr (record {
-              running = left_running target after w.stored new a.running leaving;
+              running = left_running target after filled new a.running leaving;
               united = wide;
-              full = inl (is, (missing, subst (λ (j : ℕ). HasFullLog j (in_chunks_but old.array.chunks missing listed) (in_runs listed) new.array) (sym is) now));
+              full = inl (is, none_grew target old new none, (missing, subst (λ (j : ℕ). HasFullLog j (in_chunks_but old.array.chunks missing listed) (in_runs listed) new.array) (sym is) now));
             }))
           where
             no_room : HaveRoomFor target missing filled.array listed → ⊥
-            no_room room =
-                let full = w.why.1 in
-                let same : full.member ≡ fl.now = own_stored (λ but stored. (stopped ≡ stored) × HasFullLog target but (in_runs listed) stored.array) w fl.now full.member fl.there full.at in
-                full.full (subst (λ (q : MemberView). HasRoomFor q.superblock full.list) (sym same)
-                (room.own fl.now full.list fl.there (subst (λ (q : MemberView). IsListOf (in_chunks_but filled.array.chunks missing listed) (in_runs listed) q full.list) same full.list_is)))
+            no_room room = has.full (room.own has.member has.list has.at has.list_is)
 
             wide : fits.gap ≡ 510
             wide = elim fits.fits [ inl gap ↦ gap | inr room ↦ absurd (no_room room) ]
@@ -542,10 +530,13 @@ module _ (target : ℕ) where
 
         without : (after : Bitmap) (stopped new : MirrorView) (fault : RebuildFault) → FailsWithout target missing listed filled stopped fault → LeavesSo target after stopped new fault → HasNotSalvaged target fault old new
         without after stopped new (LogFull k) (inl n) leaves = full_some k after stopped new n leaves
-        without after stopped new (LogFull k) (inr x) leaves = full_own k after stopped new x.0 x.1 leaves
-        without after stopped new NoMemory (inl n) leaves =
+        without after stopped new (LogFull k) (inr x) leaves = full_own k after stopped new x.0 x.1 x.2 leaves
+        without after stopped new NoMemory (inl same) leaves =
+            no_memory after lost listed old stopped new m b.at (subst (IsAt target listed old) (sym same) (filled_at listed)) leaves
+            (λ left. far new (subst (λ (v : MirrorView). Moves target listed v new) same left))
+        without after stopped new NoMemory (inr (inl n)) leaves =
             no_memory after lost listed old stopped new m b.at (some_at stopped NoMemory n) leaves (λ left. far new (moves_on target listed filled stopped new (some_moves stopped NoMemory n) left))
-        without after stopped new NoMemory (inr w) leaves =
+        without after stopped new NoMemory (inr (inr w)) leaves =
             let is = w.why in
             no_memory after lost listed old stopped new m b.at (subst (IsAt target listed old) (sym is) (all_at (λ but stored. stopped ≡ stored) w)) leaves
             (λ left. far new (moves_on target listed filled stopped new (subst (Moves target listed filled) (sym is) (all_moves (λ but stored. stopped ≡ stored) w)) left))

@@ -281,9 +281,10 @@ module _ (target : ℕ) where
       fails_without : (after : Bitmap) (stopped new : MirrorView) (fault : RebuildFault) → FailsWithout target missing listed filled stopped fault → LeavesSo target after stopped new fault → IsConsistent new
           → LeadsUnsalvaged target old new
       fails_without after stopped new (LogFull k) (inl n) leaves sound = unsalvaged old new _ (left_there target after old stopped new (noted_comes (LogFull k) stopped n) leaves sound)
-      fails_without after stopped new (LogFull k) (inr x) leaves sound = unsalvaged old new _ (left_there target after old stopped new (same_comes _ x.1 stopped x.1.why.0) leaves sound)
-      fails_without after stopped new NoMemory (inl n) leaves sound = unsalvaged old new _ (left_there target after old stopped new (noted_comes NoMemory stopped n) leaves sound)
-      fails_without after stopped new NoMemory (inr w) leaves sound = unsalvaged old new _ (left_there target after old stopped new (same_comes _ w stopped w.why) leaves sound)
+      fails_without after stopped new (LogFull k) (inr x) leaves sound = unsalvaged old new _ (left_there target after old stopped new (subst (ComesTo target old) (sym x.1) come) leaves sound)
+      fails_without after stopped new NoMemory (inl same) leaves sound = unsalvaged old new _ (left_there target after old stopped new (subst (ComesTo target old) (sym same) come) leaves sound)
+      fails_without after stopped new NoMemory (inr (inl n)) leaves sound = unsalvaged old new _ (left_there target after old stopped new (noted_comes NoMemory stopped n) leaves sound)
+      fails_without after stopped new NoMemory (inr (inr w)) leaves sound = unsalvaged old new _ (left_there target after old stopped new (same_comes _ w stopped w.why) leaves sound)
       fails_without after stopped new (MetadataFault k) f leaves sound = unsalvaged old new _ (left_leads target k leaves.0 old stopped new (list_stops k stopped f) leaves.2 sound)
       fails_without after stopped new TargetFault w leaves sound = subst (LeadsUnsalvaged target old) (sym leaves) (unenrolled stopped w (subst IsConsistent leaves sound))
       fails_without after stopped new Halted f leaves sound = absurd f

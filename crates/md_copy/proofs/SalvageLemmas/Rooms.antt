@@ -13,6 +13,7 @@ use Rattle.md_kept_members.specs.SectorLists.{IsListMore, IsListOf, in_chunks_bu
 use Rattle.md_kept_members.specs.View.{MemberView}
 use Rattle.md_state.specs.Members.{IsMember}
 use Rattle.md_state.specs.View.{ArrayView}
+use Rattle.md_state.specs.Steps.Enrol.{HasFullLog}
 use Rattle.md_copy.specs.Salvaging.Fitting.{HasOwnRoom, HasRoomIfInSync, HaveRoomFor}
 use Rattle.md_copy.specs.Salvaging.Widened.{IsWidened}
 
@@ -55,6 +56,16 @@ module _ (a : ArrayView) (listed : List Run) (k : ℕ) (m : MemberView) (at : Is
         (one_of (in_chunks_but a.chunks missing listed) (in_runs listed) m list other made (subst (λ (x : MemberView). IsListOf (in_chunks_but a.chunks missing listed) (in_runs listed) x other) same is)) fits),
     λ has. le-leb (entries_needed list) (log_room m.superblock) (has m list at made),
   )
+
+  pub room_full : (missing : Bitmap) (list : List Run) → IsListOf (in_chunks_but a.chunks missing listed) (in_runs listed) m list
+      → leb (entries_needed list) (log_room m.superblock) ≡ false → HasFullLog k (in_chunks_but a.chunks missing listed) (in_runs listed) a
+  room_full missing list made short = record {
+    member = m;
+    at = at;
+    list = list;
+    list_is = made;
+    full = λ fits. both_ways (leb (entries_needed list) (log_room m.superblock)) short (le-leb (entries_needed list) (log_room m.superblock) fits);
+  }
 
 -- ---- all logs
 abbrev pub HaveRoomBelow : ℕ → ArrayView → List Run → Type 0

@@ -43,12 +43,18 @@ pub record LacksLog (target k : ℕ) (m : MemberView) (old new : MirrorView) : T
   pub none : log_room m.superblock ≡ 0
   pub unchanged : new ≡ old
 
+-- no list of another member grew
+abbrev pub NoListGrew : ℕ → ArrayView → ArrayView → Type 0
+NoListGrew target old new =
+    (k : ℕ) (m n : MemberView) → k ≢ target → IsMember old k m → IsMember new k n → (sector : ℕ) → IsBad n.bad sector → IsBad m.bad sector
+
 -- The log of member k, the target or one in sync, has no room for its list with what is to be listed, though runs are united as far as that saves entries.
+-- Where it is the target's, nothing was listed on the others.
 -- (Nothing need be lost: a log that was read with a shift may have no room for what the target lists already.)
 pub record LacksRoomForLost (target k : ℕ) (listed : List Run) (gap : ℕ) (old new : MirrorView) : Type 0 where
   pub running : new.array.halted ≡ false
   pub united : gap ≡ 510
-  pub full : ((k ≡ target) × ((missing : Bitmap) × HasFullLog k (in_chunks_but old.array.chunks missing listed) (in_runs listed) new.array)) ⊎ HasFullLogForMore k (in_runs listed) new.array
+  pub full : ((k ≡ target) × NoListGrew target old.array new.array × ((missing : Bitmap) × HasFullLog k (in_chunks_but old.array.chunks missing listed) (in_runs listed) new.array)) ⊎ HasFullLogForMore k (in_runs listed) new.array
 
 abbrev pub EndsSalvageSo : (target : ℕ) → RebuildFault → MemberView → (listed : List Run) → (gap : ℕ) → MirrorView → MirrorView → Type 0
 EndsSalvageSo target Halted m listed gap old new = IsNothingDone true old new

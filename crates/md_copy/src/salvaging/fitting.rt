@@ -1,7 +1,9 @@
 // Which sectors are listed so that each log has room for them.
-ghost use Rattle.std.specs.Prelude.{◌≡◌, ◌↔◌, ◌<◌, ℕ, IfOk, length, true};
+ghost use Rattle.std.specs.Prelude.{◌≡◌, ◌↔◌, ◌<◌, ℕ, IfOk, false, length, true};
 ghost use Rattle.md_array.specs.Consistency.{IsConsistent};
 ghost use Rattle.md_copy.specs.Salvaging.Fitting.{HasOwnRoom, HasRoomIfInSync, HaveRoomFor, IsFitting};
+ghost use Rattle.md_kept_members.specs.SectorLists.{in_chunks_but, in_runs};
+ghost use Rattle.md_state.specs.Steps.Enrol.{HasFullLog};
 
 use crate::salvaging::trial_lists::{list_but_for, list_more};
 use crate::salvaging::widening::widen_lost;
@@ -61,8 +63,8 @@ fn have_room<D: Device + Drop>(
     all_have_room(alloc, mirror, listed)
 }
 
-// Whether the target's log has room.
-fn has_own_room<D: Device + Drop>(
+/// Whether the target's log has room.
+pub(crate) fn has_own_room<D: Device + Drop>(
     alloc: Global,
     mirror: &Mirror<D>,
     target: usize,
@@ -72,7 +74,8 @@ fn has_own_room<D: Device + Drop>(
     requires within { target < length mirror.now.array.members }
     requires missing { missing.now.chunks ≡ mirror.now.array.marks.chunks }
     requires sound { IsConsistent mirror.now }
-    ensures { IfOk result (λ fits. (fits ≡ true) ↔ HasOwnRoom target missing.now mirror.now.array listed.now) }
+    ensures room { IfOk result (λ fits. (fits ≡ true) ↔ HasOwnRoom target missing.now mirror.now.array listed.now) }
+    ensures full { IfOk result (λ fits. fits ≡ false → HasFullLog target (in_chunks_but mirror.now.array.chunks missing.now listed.now) (in_runs listed.now) mirror.now.array) }
 {
     let own = mirror.own(target);
     let list = list_but_for(

@@ -24,6 +24,7 @@ ghost use Rattle.md_state.specs.Steps.Rise.{HasSpentEvents};
 ghost use Rattle.md_state.specs.Steps.WriteMember.{IsNotDue};
 
 use crate::beginning::RebuildFault;
+use crate::salvaging::fitting::has_own_room;
 use md_array::{EnrolFault, Mirror, NoteFault};
 use md_badblocks::BadSet;
 use md_bitmap::Marks;
@@ -32,7 +33,7 @@ use md_metadata::store_list;
 use std::alloc::Global;
 
 /// Lists these sectors of the array on all members in sync, stores their lists, and the target comes into sync without
-/// them. It has the others of the chunks that are missing. `copied` is for the case that it does not come into sync: chunks
+/// them. It has the others of the chunks that are missing. Nothing is listed where the target's log has no room. `copied` is for the case that it does not come into sync: chunks
 /// of which no sector is lost.
 pub(crate) fn enrol_without<D: Device + Drop>(
     alloc: Global,
@@ -53,6 +54,9 @@ pub(crate) fn enrol_without<D: Device + Drop>(
     ensures leaves { IfErr result (MayLeaveSalvaged target copied.now mirror.new) }
     ensures sound { IsConsistent mirror.new }
 {
+    if !has_own_room(alloc, mirror, target, missing, lost)? {
+        return Err(RebuildFault::LogFull(target));
+    }
     list_lost(alloc, mirror, lost)?;
     enrol_target(alloc, mirror, target, missing, lost)
 }

@@ -2,7 +2,7 @@ use Rattle.std.proofs.lemmas.Result.{err_from_is_err_and}
 use Rattle.md_assembly.proofs.Indices.{got_within}
 use Rattle.md_kept_members.proofs.SectorSets.{bad_in}
 use Rattle.md_copy.proofs.Ready.Readied.{unspent_so}
-use Rattle.md_copy.proofs.SalvageLemmas.EnrolsLost.{comes_without, listed_chunks, listed_may, listed_ready, listing_fails, listing_leaves, without_leaves}
+use Rattle.md_copy.proofs.SalvageLemmas.EnrolsLost.{comes_without, listed_chunks, listed_may, listed_ready, listing_fails, listing_leaves, met_of, without_leaves}
 use Rattle.md_copy.proofs.salvaging.losing.enrol_without.Goals as goal
 
 pub list_lost-requires-clause-unspent : goal.list_lost-requires-clause-unspent
@@ -14,7 +14,7 @@ list_lost-requires-clause-sectors g c s is =
 
 pub returns-in_err-list_lost-clause-gives : goal.returns-in_err-list_lost-clause-gives
 returns-in_err-list_lost-clause-gives g c =
-    let p = err_from_is_err_and c.from_residual.result c.from_residual.ensures.1 in
+    let p = err_from_is_err_and c.from_residual-in_err-list_lost.result c.from_residual-in_err-list_lost.ensures.1 in
     let v = c.args.mirror.now in
     let it = got_within v.array.members c.args.target c.requires.within in
     rw (p.1, p.2) (listing_fails c.args.target c.args.missing.now c.args.lost.now v c.list_lost.new.mirror c.requires.ready it.0 it.1 (c.requires.lacked it.0 it.1) (c.requires.missing it.0 it.1) c.requires.filled
@@ -22,7 +22,7 @@ returns-in_err-list_lost-clause-gives g c =
 
 pub returns-in_err-list_lost-clause-leaves : goal.returns-in_err-list_lost-clause-leaves
 returns-in_err-list_lost-clause-leaves g c =
-    let p = err_from_is_err_and c.from_residual.result c.from_residual.ensures.1 in
+    let p = err_from_is_err_and c.from_residual-in_err-list_lost.result c.from_residual-in_err-list_lost.ensures.1 in
     let v = c.args.mirror.now in
     let it = got_within v.array.members c.args.target c.requires.within in
     rw (p.1, p.2) (listing_leaves c.args.target c.args.missing.now c.args.lost.now v c.list_lost.new.mirror c.requires.ready it.0 it.1 (c.requires.lacked it.0 it.1) (c.requires.missing it.0 it.1) c.requires.filled
@@ -51,7 +51,7 @@ returns-clause-gives g c =
     let v = c.args.mirror.now in
     let it = got_within v.array.members c.args.target c.requires.within in
     comes_without c.args.target c.args.missing.now c.args.lost.now v c.list_lost.new.mirror c.requires.ready it.0 it.1 (c.requires.lacked it.0 it.1) (c.requires.missing it.0 it.1) c.requires.filled c.in_ok-list_lost.ensures.gives
-    c.enrol_target.new.mirror c.enrol_target.result c.enrol_target.ensures.gives
+    (c.in_ok-has_own_room.ensures.room.0 (met_of c.in_ok-has_own_room.field-0 c.if-branch.false)) c.enrol_target.new.mirror c.enrol_target.result c.enrol_target.ensures.gives
 
 pub returns-clause-leaves : goal.returns-clause-leaves
 returns-clause-leaves g c =
