@@ -9,7 +9,7 @@ ghost use Rattle.md_cli.specs.Opened.{count, moves_device};
 ghost use Rattle.md_cli.specs.Streams.{told_of};
 
 use crate::asking::perform_asked;
-use crate::in_memory::with_bitmap;
+use crate::in_memory::{with_bitmap, with_stand_in};
 use crate::opened::{Opened, all_back, room_for};
 use crate::read_watch::ReadWatch;
 use crate::session::Session;
@@ -89,7 +89,11 @@ fn look_at_devices<
     let Ok(overlays) = lay_over(session.alloc, devices) else {
         return Err(CommandFault::NoMemory);
     };
-    let given = match with_bitmap(session.alloc, overlays, chunk) {
+    let fronted = match with_stand_in(session.alloc, overlays, session.stand_in) {
+        Ok(fronted) => fronted,
+        Err(fault) => return Err(fault),
+    };
+    let given = match with_bitmap(session.alloc, fronted, chunk) {
         Ok(given) => given,
         Err(fault) => return answer_of_overlays(Err(CommandFault::Grow(fault))),
     };

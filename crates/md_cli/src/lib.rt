@@ -16,6 +16,7 @@
 mod arrays;
 mod asking;
 mod create_options;
+mod counted_image;
 mod creating;
 mod devices;
 mod growing;
@@ -35,6 +36,7 @@ mod show_short;
 mod shown_names;
 mod sizing;
 
+pub use counted_image::stand_in_of;
 pub use md_read_commands::FillWatch;
 pub use read_watch::ReadWatch;
 pub use refusing::show_why;

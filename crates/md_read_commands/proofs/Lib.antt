@@ -11,5 +11,6 @@ pub mod ReadReadied
 pub mod ResyncedData
 pub mod Rooms
 pub mod Served
+pub mod StandIns
 pub mod Told
 pub mod Ways

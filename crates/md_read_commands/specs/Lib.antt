@@ -12,5 +12,7 @@ pub mod Pieces
 pub mod Reading
 -- An array is served to a client of the NBD protocol.
 pub mod Serving
+-- A member whose superblock was made in memory, since its own can't be read.
+pub mod StandIn
 -- How sectors of an array are read.
 pub mod Ways
