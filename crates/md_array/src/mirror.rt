@@ -1,5 +1,5 @@
 // The mirror, and what can be seen of it.
-ghost use Rattle.std.specs.Prelude.{◌≡◌, ◌↔◌, ◌<◌, ◌≤◌, ℕ, IsTrue, Some, length, map, option_map, slice_get, IfOk, true};
+ghost use Rattle.std.specs.Prelude.{◌≡◌, ◌↔◌, ◌<◌, ◌≤◌, ℕ, IsTrue, Some, length, map, option_map, slice_get, IfOk, false, true};
 ghost use Rattle.std.specs.Int.{bit_at, div_ceil};
 ghost use Rattle.md_model.specs.Sectors.{block_of};
 ghost use Rattle.md_bitmap.specs.Marks.{is_set};
@@ -8,7 +8,7 @@ ghost use Rattle.md_kept_members.specs.View.{MemberView};
 ghost use Rattle.md_kept_members.specs.Members.{NeedsMarks};
 ghost use Rattle.md_state.specs.View.{disk_of};
 ghost use Rattle.md_state.specs.Missing.{is_re_added, AreMissing, is_missing};
-ghost use Rattle.md_state.specs.Members.{IsMember, IsPermitted, is_degraded};
+ghost use Rattle.md_state.specs.Members.{IsAlone, IsMember, IsPermitted, is_degraded};
 ghost use Rattle.md_state.specs.Steps.Checkpoint.{IsFirstEnd};
 ghost use Rattle.md_state.specs.Steps.WriteMember.{HasMarksFrom};
 ghost use Rattle.md_array.specs.Consistency.{IsConsistent};
@@ -174,6 +174,23 @@ impl<D: Device + Drop> Mirror<D> {
         ensures counted { IsConsistent self.now → IsTrue result ↔ (count_in_sync self.now.array < self.now.array.shared.raid_disks) }
     {
         self.array.is_degraded()
+    }
+
+    /// Whether more than one member is in sync.
+    pub fn has_two_in_sync(&self) -> bool
+        ensures one { result ≡ false → IsAlone self.now.array }
+        ensures two { result ≡ true → IsAlone self.now.array → ⊥ }
+    {
+        let mut one = false;
+        for k in 0..self.members() {
+            if self.state(k).is_in_sync() {
+                if one {
+                    return true;
+                }
+                one = true;
+            }
+        }
+        false
     }
 
     /// The roles in which a chunk may be read: bit r is set where the member that is in sync in role r

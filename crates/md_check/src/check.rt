@@ -1,5 +1,5 @@
 // The members of a mirror are compared.
-ghost use Rattle.std.specs.Prelude.{◌≡◌, MatchResult, OnOk, true, false};
+ghost use Rattle.std.specs.Prelude.{MatchResult, OnOk};
 ghost use Rattle.md_state.specs.Steps.MakeClean.{IsIdle};
 ghost use Rattle.md_state.specs.Members.{IsAlone};
 ghost use Rattle.md_array.specs.Consistency.{IsConsistent};
@@ -99,27 +99,10 @@ fn compare<D: Device + Drop + Send, G: Gate + Sync, R: Threads + Sync>(
     ensures sound { IsConsistent mirror.new }
     ensures told { OnOk result (IsToldOfMembers G.Gate gate.now mirror.old.array) }
 {
-    if has_two_in_sync(mirror) {
+    if mirror.has_two_in_sync() {
         lend_and_compare(rt, alloc, mirror, gate, found)?;
     }
     Ok(())
-}
-
-// Whether two members are in sync.
-fn has_two_in_sync<D: Device + Drop>(mirror: &Mirror<D>) -> bool
-    ensures one { result ≡ false → IsAlone mirror.now.array }
-    ensures two { result ≡ true → IsAlone mirror.now.array → ⊥ }
-{
-    let mut one = false;
-    for k in 0..mirror.members() {
-        if mirror.state(k).is_in_sync() {
-            if one {
-                return true;
-            }
-            one = true;
-        }
-    }
-    false
 }
 
 // Compares them where two members are in sync. The devices are lent, and each comes back to its place.

@@ -59,7 +59,7 @@ pub use offsets::{
 pub use on_devices::{bitmap_start, store_fields_on, store_log, store_member, store_superblock};
 pub use other_in_sync::has_other_in_sync;
 pub use own_fields::is_write_mostly;
-pub use permitting::{lists_any, permitted_roles};
+pub use permitting::{lists_any, permitted_roles, role_in_sync};
 pub use remembering::{chunking_of, members_of};
 pub use sector_lists::{list_but_for, list_with_sectors};
 pub use spares::kept_spare;

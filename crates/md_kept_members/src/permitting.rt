@@ -47,8 +47,8 @@ fn role_to_read(member: &Member, chunks: Chunks, chunk: u32) -> u32
     role_in_sync(member.state)
 }
 
-// The bit of the role in which a member is in sync.
-fn role_in_sync(state: MemberState) -> u32
+/// The bit of the role in which a member in this state is in sync; none where it isn't, or where a word has no such bit.
+pub fn role_in_sync(state: MemberState) -> u32
     ensures { (role : ℕ) → role < 32 → (bit_at result role ≡ 1) ↔ (is_in_sync_as role state ≡ true) }
 {
     let MemberState::InSync(role) = state else {

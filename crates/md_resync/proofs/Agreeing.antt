@@ -1,15 +1,13 @@
 -- Members in sync are made to agree in marked chunks, and a content is kept meanwhile.
-use Rattle.std.proofs.Common.{◌≡◌, ℕ, ◌+◌, ◌<◌, List, [], ◌∷◌, length, slice_get, Option, Some, None, refl, sym, ap, ◌∙◌, subst, arith, inl, inr}
-use Rattle.std.proofs.lemmas.Bool.{cases_lt}
-use Rattle.std.proofs.lemmas.Option.{slice_get_within}
+use Rattle.std.proofs.Common.{◌≡◌, ℕ, ◌<◌, List, [], ◌∷◌, slice_get, Option, Some, None, refl, sym, ap, ◌∙◌, subst}
 use Rattle.md_model.specs.Content.{Becomes, Content, HoldsBetween}
 use Rattle.md_model.specs.Sectors.{Geometry}
 use Rattle.md_model.specs.Events.{Event, MemberPart}
 use Rattle.md_model.specs.Worlds.{World}
 use Rattle.md_kept_members.specs.View.{MemberView}
-use Rattle.md_state.specs.View.{ArrayView, Disk, MirrorView, geometry_of}
+use Rattle.md_state.specs.View.{Disk, MirrorView, geometry_of}
 use Rattle.md_state.specs.Steps.MakeClean.{IsIdle}
-use Rattle.md_state.specs.Members.{IsAlone, IsInSync}
+use Rattle.md_state.specs.Members.{IsAlone}
 use Rattle.md_state.specs.Requests.{AreInFlight}
 use Rattle.md_state.specs.Rests.{Rests}
 use Rattle.md_array.specs.Consistency.{IsConsistent}
@@ -22,33 +20,10 @@ use Rattle.md_array.proofs.StepLemmas.Turns.{all_such}
 use Rattle.md_laws.specs.ReadInTurn.{LeadsReading}
 use Rattle.md_metadata.specs.Clearing.{IsClearing}
 use Rattle.md_resync.specs.Copying.{CopiesOnly, CopiesMarked, CopyingGoesOn, IsCopying}
-use Rattle.md_resync.specs.Resyncing.{ResyncAdvances, Agrees, ResyncGoesOn, IsFirstInSyncFrom, IsOfResync, KeepsHeldContent, NoneInSyncBetween}
+use Rattle.md_resync.specs.Resyncing.{ResyncAdvances, Agrees, ResyncGoesOn, IsOfResync, KeepsHeldContent}
 use Rattle.md_resync.proofs.Advancing.{goes_none}
 use Rattle.md_resync.proofs.CopiedRuns.{copies_none, copies_unfailing}
 use Rattle.md_assembly.proofs.Indices.{got_same}
-
--- ---- who is in sync
-pub alone_if_none : (a : ArrayView) → NoneInSyncBetween 0 (length a.members) a → IsAlone a
-alone_if_none a none j k m n one other = absurd (none j m (omega arith) (slice_get_within a.members j m one.member) one)
-
--- no member but this one
-only : (a : ArrayView) (first : ℕ) → NoneInSyncBetween 0 first a → NoneInSyncBetween (first + 1) (length a.members) a → (j : ℕ) (m : MemberView) → IsInSync a j m → j ≡ first
-only a first before after j m is = elim (cases_lt j first) [
-  | inl low ↦ absurd (before j m (omega arith) low is)
-  | inr high ↦ elim (cases_lt first j) [
-    | inl above ↦ absurd (after j m (omega arith) (slice_get_within a.members j m is.member) is)
-    | inr below ↦ omega arith
-  ]
-]
-
-pub alone_if_one : (a : ArrayView) (first : ℕ) → NoneInSyncBetween 0 first a → NoneInSyncBetween (first + 1) (length a.members) a → IsAlone a
-alone_if_one a first before after j k m n one other = only a first before after j m one ∙ sym (only a first before after k n other)
-
-pub two_apart : (a : ArrayView) (first second : ℕ) → IsFirstInSyncFrom 0 first a → IsFirstInSyncFrom (first + 1) second a → IsAlone a → ⊥
-two_apart a first second one other alone =
-    let same = alone first second one.member other.member one.in_sync other.in_sync in
-    let above = other.from in
-    omega arith
 
 -- one alone agrees with itself
 pub alone_agrees : (v : MirrorView) → IsAlone v.array → AllAgreeWhereMarked v

@@ -1,9 +1,8 @@
 // Making members agree where they may differ.
-ghost use Rattle.std.specs.Prelude.{◌≡◌, ◌<◌, ◌≤◌, MatchOption, MatchResult, false, length, true};
-ghost use Rattle.md_state.specs.Members.{IsAlone};
+ghost use Rattle.std.specs.Prelude.{◌≡◌, ◌≤◌, MatchResult, length};
 ghost use Rattle.md_array.specs.Consistency.{IsConsistent};
 ghost use Rattle.md_resync.specs.Copying.{MayCopyMarked};
-ghost use Rattle.md_resync.specs.Resyncing.{AgreeingFails, Agrees, IsFirstInSyncFrom, NoneInSyncBetween};
+ghost use Rattle.md_resync.specs.Resyncing.{AgreeingFails, Agrees};
 
 use crate::chunks::copy_marked;
 use crate::fault::ResyncFault;
@@ -24,35 +23,9 @@ pub fn make_agree<D: Device + Drop>(
     requires may { MayCopyMarked mirror.old.array }
     ensures { MatchResult result (λ _. Agrees mirror.old mirror.new) (AgreeingFails mirror.old mirror.new) }
 {
-    if !has_two_in_sync(mirror) {
+    // A member that is alone in sync is not read.
+    if !mirror.has_two_in_sync() {
         return Ok(());
     }
     copy_marked(mirror, buffer, held)
-}
-
-// Whether more than one member is in sync: where one is alone, it is not read.
-fn has_two_in_sync<D: Device + Drop>(mirror: &Mirror<D>) -> bool
-    requires sound { IsConsistent mirror.now }
-    ensures one { result ≡ false → IsAlone mirror.now.array }
-    ensures two { result ≡ true → IsAlone mirror.now.array → ⊥ }
-{
-    let Some(first) = in_sync_from(mirror, 0) else {
-        return false;
-    };
-    match in_sync_from(mirror, first + 1) {
-        Some(_) => true,
-        None => false,
-    }
-}
-
-// The first member in sync of those from this index on.
-fn in_sync_from<D: Device + Drop>(mirror: &Mirror<D>, start: usize) -> Option<usize>
-    ensures { MatchOption result (NoneInSyncBetween start (length mirror.now.array.members) mirror.now.array) (λ first. IsFirstInSyncFrom start first mirror.now.array) }
-{
-    for k in start..mirror.members() {
-        if mirror.state(k).is_in_sync() {
-            return Some(k);
-        }
-    }
-    None
 }

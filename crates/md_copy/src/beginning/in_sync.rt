@@ -1,13 +1,11 @@
 // The roles of the members in sync.
-ghost use Rattle.std.specs.Prelude.{◌≡◌, ◌↔◌, ◌<◌, ℕ, true};
+ghost use Rattle.std.specs.Prelude.{◌≡◌, ◌↔◌, ◌<◌, ℕ};
 ghost use Rattle.std.specs.Int.{bit_at};
-ghost use Rattle.md_assembly.specs.States.{is_in_sync_as};
 ghost use Rattle.md_copy.specs.Table.Sources.{IsInSyncWith, IsReadInRole};
 
 use md_array::Mirror;
-use md_assembly::MemberState;
 use md_device::Device;
-use md_kept_members::is_write_mostly;
+use md_kept_members::{is_write_mostly, role_in_sync};
 
 /// The roles in which a chunk may be read of which no member lists a sector, as bits of a word: those of
 /// members in sync that are not write-mostly, and of the others where there is none.
@@ -34,18 +32,4 @@ fn roles_in_sync<D: Device + Drop>(mirror: &Mirror<D>, mostly: bool) -> u32
         }
     }
     roles
-}
-
-// The bit of the role in which a member in this state is in sync, if a word has it.
-fn role_in_sync(state: MemberState) -> u32
-    ensures { (role : ℕ) → role < 32
-        → (bit_at result role ≡ 1) ↔ (is_in_sync_as role state ≡ true) }
-{
-    let MemberState::InSync(role) = state else {
-        return 0;
-    };
-    if role >= 32 {
-        return 0;
-    }
-    1 << u32::from(role)
 }

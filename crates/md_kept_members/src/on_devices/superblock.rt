@@ -9,7 +9,6 @@ ghost use Rattle.md_kept_members.specs.OnDevices.Superblocks.{IsReadable, own_wr
 
 use crate::member::Member;
 use md_device::{Device, WriteFault};
-use md_members::put;
 use md_super::{SUPER_SECTOR, Superblock, encode_member};
 
 /// Writes a member's superblock on its device: these fields of the array, and its own.
@@ -23,7 +22,8 @@ pub fn store_superblock<D: Device>(
     ensures outside { SameOutside (512 * 8) (length (write_of shared.now member.now).bytes) (D.content device.old) (D.content device.new) }
     ensures readable { IsReadable (merged shared.now member.now.superblock) }
 {
-    store_fields(device, shared, &member.superblock)
+    let block = block_for(shared, &member.superblock);
+    device.write(SUPER_SECTOR, &block)
 }
 
 /// Writes a superblock with these fields of the array and these of its own on device `k` of several. No other one is
@@ -39,22 +39,8 @@ pub fn store_fields_on<D: Device>(
     ensures writes { WritesAlone D.Device k (own_write shared.now own.now) devices.old devices.new result }
     ensures readable { IsReadable (merged shared.now own.now) }
 {
-    store_fields(&mut devices[k], shared, own)
-}
-
-// Writes a superblock with these fields as the member's own.
-fn store_fields<D: Device>(
-    device: &mut D,
-    shared: &Superblock,
-    own: &Superblock,
-) -> Result<(), WriteFault>
-    requires { 16 ≤ sectors_of_device (D.content device.old) }
-    ensures writes { MakesWrites D.Device (own_write shared.now own.now ∷ []) device.old device.new result }
-    ensures outside { SameOutside (512 * 8) (length (own_write shared.now own.now).bytes) (D.content device.old) (D.content device.new) }
-    ensures readable { IsReadable (merged shared.now own.now) }
-{
     let block = block_for(shared, own);
-    put(device, SUPER_SECTOR, &block)
+    devices[k].write(SUPER_SECTOR, &block)
 }
 
 /// The bytes that are written for it.

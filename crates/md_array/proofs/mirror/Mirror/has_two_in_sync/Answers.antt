@@ -5,12 +5,12 @@ use Rattle.md_assembly.proofs.Indices.{got_within}
 use Rattle.md_kept_members.specs.View.{MemberView}
 use Rattle.md_state.proofs.Members.At.{told}
 use Rattle.md_state.specs.Members.{IsInSync}
-use Rattle.md_check.proofs.check.has_two_in_sync.Goals as goal
-use Rattle.md_check.proofs.check.has_two_in_sync.Goals.{then-is_in_sync+else-one, else-is_in_sync}
+use Rattle.md_array.proofs.mirror.Mirror.has_two_in_sync.Goals as goal
+use Rattle.md_array.proofs.mirror.Mirror.has_two_in_sync.Goals.{then-is_in_sync+else-one, else-is_in_sync}
 
 pub loop-k-preserved : goal.loop-k-preserved
 loop-k-preserved g c =
-    let a = c.args.mirror.now.array in
+    let a = c.args.self.now.array in
     let inv = c.loop-k.invariant in
     let k = c.loop-k.k in
     let test = c.loop-k-test.true in
@@ -52,7 +52,7 @@ loop-k-preserved g c =
 
 pub returns-clause-one : goal.returns-clause-one
 returns-clause-one g c = λ e j k m n one other.
-    let a = c.args.mirror.now.array in
+    let a = c.args.self.now.array in
     let past = c.loop-k-test.false in
     let count = c.members-k-end.ensures in
     let low = slice_get_within a.members j m one.member in
