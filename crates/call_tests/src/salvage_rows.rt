@@ -106,7 +106,7 @@ fn salvaged_members(rt: HostRuntime) -> Result<(), Fail> {
     play(&rt, rt.alloc(), &DONE)
 }
 
-const REFUSED: [Row; 5] = [
+const REFUSED: [Row; 7] = [
     // The target can list nothing, which is found before anything is done.
     Row {
         members: &[
@@ -159,6 +159,47 @@ const REFUSED: [Row; 5] = [
                 Answer::NotRebuilt(RebuildFault::LogFull(0)),
             ),
             (Call::List(1), NO_LIST),
+            (Call::State(1), Answer::Is(MemberState::Recovering(1))),
+        ],
+        ..ROW
+    },
+    // The log of the second source is full: nothing is listed on the first either.
+    Row {
+        members: &[
+            SCRATCHED,
+            Member {
+                is_log_full: true,
+                bad: (8, 1),
+                ..SHORT_SECOND
+            },
+            SHORT_SPARE,
+        ],
+        calls: &[
+            (
+                Call::Salvage(2),
+                Answer::NotRebuilt(RebuildFault::LogFull(1)),
+            ),
+            (Call::List(0), NO_LIST),
+            (Call::List(2), NO_LIST),
+            (Call::State(2), Answer::Is(MemberState::Recovering(2))),
+        ],
+        ..ROW
+    },
+    // A target whose log is full changes no list either.
+    Row {
+        members: &[
+            SCRATCHED,
+            Member {
+                is_log_full: true,
+                ..SHORT_SPARE
+            },
+        ],
+        calls: &[
+            (
+                Call::Salvage(1),
+                Answer::NotRebuilt(RebuildFault::LogFull(1)),
+            ),
+            (Call::List(0), NO_LIST),
             (Call::State(1), Answer::Is(MemberState::Recovering(1))),
         ],
         ..ROW

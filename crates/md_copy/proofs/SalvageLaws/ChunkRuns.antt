@@ -1,7 +1,6 @@
 -- Chunks that were left are filled and recorded, one after another: events of the array's model.
 use Rattle.std.proofs.Common.{◌≡◌, ◌≢◌, ◌∙◌, ◌⊎◌, ℕ, ◌*◌, ◌<◌, true, false, Some, List, [], ◌∷◌, ◌++◌, slice_get, refl, sym, ap, subst, inl, inr}
 use Rattle.std.proofs.lemmas.Bool.{cases_eq}
-use Rattle.std.proofs.lemmas.Option.{same_Some}
 use Rattle.md_badblocks.specs.declared.run.Run.{Run}
 use Rattle.md_bitmap.specs.Marks.{Bitmap, is_set}
 use Rattle.md_kept_members.specs.TakingBack.{member_says_of}

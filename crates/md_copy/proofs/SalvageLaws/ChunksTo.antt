@@ -1,8 +1,7 @@
 -- What chunks that were filled one after another come to, and which of their sectors no member in sync gave.
-use Rattle.std.proofs.Common.{◌≡◌, ◌≢◌, ◌∙◌, ◌⊎◌, ◌↔◌, ◌||◌, ◌==◌, ℕ, ◌+◌, ◌*◌, ◌<◌, ◌≤◌, true, false, Some, List, [], ◌∷◌, ◌++◌, append-nil, append_assoc, length, slice_get, refl, sym, ap, subst, arith, inl, inr}
-use Rattle.std.proofs.lemmas.Bool.{both_ways, cases_Bool, cases_eq, eq-eqb, ne_eqb}
-use Rattle.std.proofs.lemmas.Option.{same_Some, slice_get_within}
-use Rattle.md_assembly.proofs.Indices.{got_within}
+use Rattle.std.proofs.Common.{◌≡◌, ◌∙◌, ◌⊎◌, ◌↔◌, ◌||◌, ◌==◌, ℕ, ◌+◌, ◌*◌, ◌<◌, ◌≤◌, true, false, List, [], ◌∷◌, ◌++◌, append-nil, append_assoc, refl, sym, ap, subst, arith, inl, inr}
+use Rattle.std.proofs.lemmas.Bool.{cases_Bool, cases_eq, eq-eqb, ne_eqb}
+use Rattle.std.proofs.lemmas.Option.{same_Some}
 use Rattle.md_assembly.specs.States.{is_in_sync}
 use Rattle.md_badblocks.specs.declared.run.Run.{Run}
 use Rattle.md_badblocks.specs.Runs.{IsBad}
@@ -15,13 +14,12 @@ use Rattle.md_kept_members.specs.View.{MemberView}
 use Rattle.md_read.specs.Reading.{IsReadOfMember, NoneGives}
 use Rattle.md_state.specs.Members.{IsInSync, IsMember}
 use Rattle.md_state.specs.Missing.{is_missing}
-use Rattle.md_state.specs.Steps.CopyData.{Lists}
-use Rattle.md_state.specs.View.{ArrayView, Disk, MirrorView}
+use Rattle.md_state.specs.View.{ArrayView, MirrorView}
 use Rattle.md_copy.specs.Ready.{IsReadyToCopy}
 use Rattle.md_copy.specs.Salvaging.Filling.{AllAreFilled, AreSalvaged, FillsWithin, SalvagesAll, SalvagesChunk}
 use Rattle.md_copy.specs.Salvaging.Sectors.{AreSectorsHeld}
-use Rattle.md_copy.proofs.SalvageLaws.ChunkRuns.{GoesSoFar, chunk_ready, ends_go}
-use Rattle.md_copy.proofs.SalvageLaws.SectorsKept.{DevicesStay, Stays, between, chunk_filled_stay, chunk_stays, devices_recorded, disk_was, salvaged_stay, stays_none}
+use Rattle.md_copy.proofs.SalvageLaws.ChunkRuns.{GoesSoFar, ends_go}
+use Rattle.md_copy.proofs.SalvageLaws.SectorsKept.{DevicesStay, Stays, between, chunk_stays, devices_recorded, disk_was, salvaged_stay}
 use Rattle.md_copy.proofs.SalvageLemmas.ChunkFilled.{IsRangeOf, chunk_more, others_still}
 use Rattle.md_copy.proofs.SalvageLemmas.LeftSalvaged.{SalvagesBelow, SalvagesTo, all_filled, salvages_more}
 use Rattle.md_copy.proofs.SalvageLemmas.SectorsRecorded.{sectors_recorded}

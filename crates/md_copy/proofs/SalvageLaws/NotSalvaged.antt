@@ -1,16 +1,16 @@
 -- What stands after a salvage that is refused, by its steps.
 use Rattle.std.proofs.Common.{◌≡◌, ◌≢◌, ◌∙◌, ◌⊎◌, ℕ, ◌/◌, ◌<◌, Bool, true, false, List, [], slice_get, refl, sym, ap, subst, arith, inl, inr}
-use Rattle.std.proofs.lemmas.Bool.{both_ways}
-use Rattle.std.proofs.lemmas.Option.{same_Some, slice_get_within}
-use Rattle.md_assembly.proofs.Indices.{got_within}
+use Rattle.std.proofs.lemmas.Bool.{both_ways, cases_Bool}
+use Rattle.std.proofs.lemmas.Option.{same_Some}
 use Rattle.md_assembly.specs.States.{is_in_sync, is_recorded}
 use Rattle.md_badblocks.specs.declared.run.Run.{Run}
+use Rattle.md_badblocks.specs.Runs.{IsBad}
 use Rattle.md_bitmap.specs.declared.chunks.Chunks.{Chunks}
 use Rattle.md_bitmap.specs.Marks.{Bitmap}
 use Rattle.md_copy.specs.PassLaws.Passes.{PassView, slots_of_pass}
 use Rattle.md_kept_members.specs.Enrolling.{HasRoomFor}
 use Rattle.md_kept_members.specs.Members.{recorded_member}
-use Rattle.md_kept_members.specs.SectorLists.{IsListMore, IsListOf, in_chunks_but, in_runs}
+use Rattle.md_kept_members.specs.SectorLists.{IsListOf, in_chunks_but, in_runs}
 use Rattle.md_kept_members.specs.View.{MemberView}
 use Rattle.md_super.specs.declared.superblock.Superblock.{Superblock}
 use Rattle.md_metadata.specs.Storing.{IsStoring, Stores}
@@ -32,9 +32,9 @@ use Rattle.md_copy.specs.Readying.{RefusesToReady}
 use Rattle.md_copy.specs.Rebuilding.{BeginsRebuild, EndsStoring}
 use Rattle.md_copy.specs.Refused.{HasHalted, IsLost}
 use Rattle.md_copy.specs.Salvaging.Filling.{BreaksFilling, EndsAtChunk, FillsWithin, IsTargetLeft}
-use Rattle.md_copy.specs.Salvaging.Fitting.{HaveRoomFor, IsFitting}
+use Rattle.md_copy.specs.Salvaging.Fitting.{HaveRoomFor, IsFitting, LacksRoomAt}
 use Rattle.md_copy.specs.Salvaging.Losing.{EndsNotingLost, EndsWithout, FailsWithout, NotesLost, every_role}
-use Rattle.md_copy.specs.Salvaging.Refused.{AreLostSoFar, EndsSalvageSo, HasNotSalvaged}
+use Rattle.md_copy.specs.Salvaging.Refused.{AreLostSoFar, EndsSalvageSo, HasNotSalvaged, ListsStay}
 use Rattle.md_copy.specs.Salvaging.Sectors.{IsLacked}
 use Rattle.md_copy.specs.Salvaging.Steps.{CannotSalvage, EndsSalvageReadied, FailsWhole, FillsBut, RefusesSalvage}
 use Rattle.md_copy.specs.Salvaging.Widened.{IsWidened}
@@ -59,9 +59,8 @@ use Rattle.md_copy.proofs.SalvageLaws.SalvageEnded.{fails_moved, none_lost, none
 use Rattle.md_copy.proofs.SalvageLaws.SalvageLeads.{lists_lead, passed_goes}
 use Rattle.md_copy.proofs.SalvageLaws.SalvageMoves.{Moves, all_noted, all_stored, chunks_move, fill_moves, left_moves, moves_begun, moves_none, moves_on, moves_part, moves_passed, moves_started, moves_stretch, part_holds, some_noted}
 use Rattle.md_copy.proofs.SalvageLaws.SalvagedFrom.{none_started}
-use Rattle.md_copy.proofs.SalvageLaws.UnsalvagedLeads.{AreRecovering, all_noted_recovers, noted_recovers}
+use Rattle.md_copy.proofs.SalvageLaws.UnsalvagedLeads.{AreRecovering, all_noted_recovers}
 use Rattle.md_copy.proofs.SalvageLemmas.ChunkFilled.{IsRangeOf}
-use Rattle.md_copy.proofs.SalvageLemmas.EveryRole.{in_no_role}
 
 -- ---- how far the target is rebuilt is recorded, or not
 module _ (target : ℕ) (copied : Bitmap) (stopped new : MirrorView) where
@@ -113,6 +112,16 @@ stored_stays target fault old mid new s is = record {
   marks = ap (λ (a : ArrayView). a.marks) is ∙ s.goes.array.marks;
   resynced = ap (λ (a : ArrayView). a.resynced) is ∙ s.goes.array.resynced;
 }
+
+-- nothing was listed
+lists_stay : (target : ℕ) (old new : MirrorView) → Moves target [] old new → ListsStay target old.array new.array
+lists_stay target old new x k l n other at_l at_n sector = (
+  λ bad. elim (cases_Bool (is_in_sync l.state)) [
+    | inl on ↦ elim (x.grown k l n other (record { member = at_l; in_sync = on }) at_n sector bad) [ inl was ↦ was | inr more ↦ absurd more.1 ]
+    | inr off ↦ subst (λ (runs : List Run). IsBad runs sector) (x.out k l n other at_l (λ (is : IsInSync old.array k l). both_ways (is_in_sync l.state) off is.in_sync) at_n) bad
+  ],
+  λ bad. x.kept k l n other at_l at_n sector bad,
+)
 
 -- Up to a mirror that runs all is left as it was but for this.
 record IsAt (target : ℕ) (listed : List Run) (old v : MirrorView) : Type 0 where
@@ -383,41 +392,6 @@ module _ (target : ℕ) where
             running = ap (λ (a : ArrayView). a.halted) n.notes.others ∙ go_f.ready.goes.idle.running;
           }
 
-        -- the log of one has no room
-        full_some : (k : ℕ) (after : Bitmap) (stopped new : MirrorView) → EndsNotingLost listed filled stopped (LogFull k) → RecordsAtEnd target after stopped new → HasNotSalvaged target (LogFull k) old new
-        full_some k after stopped new n leaves =
-            let a = some_at stopped (LogFull k) n in
-            let left = left_moves target listed after stopped new (λ running. a.sound) leaves in
-            let runs = left_running target after stopped new a.running leaves in
-            let full = n.why.2 in
-            let on = n.why.3 full.member full.at in
-            let other : n.index ≢ target = λ same.
-            both_ways (is_in_sync full.member.state) (out_of_sync full.member.state (noted_recovers target n.index listed filled stopped n.notes recovers full.member (ap (slice_get stopped.array.members) (sym same) ∙ full.at))) on in
-            let then : HasFullLogForMore n.index (in_runs listed) new.array = record {
-              running = runs;
-              member = full.member;
-              at = left_other target after stopped new (λ running. a.sound) leaves n.index other ∙ full.at;
-              list = full.list;
-              list_is = full.list_is;
-              full = full.full;
-            } in
-            not_salvaged_moved target (LogFull k) lost listed old new m b.at (moves_on target listed old stopped new a.moves left) (far new (moves_on target listed filled stopped new (some_moves stopped (LogFull k) n) left))
-            (inr (record { running = runs; united = wide; full = inr (subst (λ (j : ℕ). HasFullLogForMore j (in_runs listed) new.array) (sym n.why.1) then) }))
-          where
-            no_room : HaveRoomFor target missing filled.array listed → ⊥
-            no_room room =
-                let full = n.why.2 in
-                let on = n.why.3 full.member full.at in
-                let low = slice_get_within stopped.array.members n.index full.member full.at in
-                let many = n.notes.goes.array.as_many in
-                let z = got_within filled.array.members n.index (omega (arith, low, many)) in
-                let same : full.member ≡ z.0 = n.notes.rest n.index z.0 full.member (omega arith) z.1 full.at in
-                let was : IsInSync filled.array n.index z.0 = record { member = z.1; in_sync = ap (λ (q : MemberView). is_in_sync q.state) (sym same) ∙ on } in
-                full.full (subst (λ (q : MemberView). HasRoomFor q.superblock full.list) (sym same) (room.in_sync n.index z.0 full.list was (subst (λ (q : MemberView). IsListMore (in_runs listed) q full.list) same full.list_is)))
-
-            wide : fits.gap ≡ 510
-            wide = elim fits.fits [ inl is ↦ is | inr room ↦ absurd (no_room room) ]
-
         -- all of them do, on the devices
         module _ (Why : (ℕ → Bool) → MirrorView → Type 0) (w : EndsWithout target missing listed filled Why) where
           all_moves : Moves target listed filled w.stored
@@ -439,48 +413,51 @@ module _ (target : ℕ) where
             running = all_runs;
           }
 
-          -- the target is as it was
-          own_stored : (l n : MemberView) → IsMember filled.array target l → IsMember w.stored.array target n → n ≡ l
-          own_stored l n at_l at_n = elim w.lists [
-            | inl none ↦ same_Some n l (sym at_n ∙ ap (λ (v : MirrorView). slice_get v.array.members target) none.1 ∙ at_l)
-            | inr both ↦
-                let low = slice_get_within filled.array.members target l at_l in
-                let many = both.0.goes.array.as_many in
-                let q = got_within w.noted.array.members target (omega (arith, low, many)) in
-                let same : q.0 ≡ l = (both.0.lists target l q.0 at_l q.1).alone.out (out_of_sync l.state (recovers l at_l)) in
-                elim (both.1.members target q.0 n q.1 at_n) [
-                  | inl is ↦ absurd (in_no_role q.0 (ap (λ (z : MemberView). is_in_sync z.state) same ∙ out_of_sync l.state (recovers l at_l)) is.0)
-                  | inr stays ↦ stays.1 ∙ same
-                ]
+        -- a log has no room, and nothing was listed
+        module _ (k : ℕ) (lacks : LacksRoomAt target missing listed filled.array k) where
+          no_room : HaveRoomFor target missing filled.array listed → ⊥
+          no_room room = elim lacks [
+            | inl own ↦ own.1.full (room.own own.1.member own.1.list own.1.at own.1.list_is)
+            | inr more ↦ more.full (room.in_sync k more.member more.list more.in_sync more.list_is)
           ]
 
-        -- the target's log has no room
-        full_own : (k : ℕ) (after : Bitmap) (stopped new : MirrorView) → k ≡ target → EndsWithout target missing listed filled (λ but stored. (stopped ≡ stored) × HasFullLog target but (in_runs listed) stored.array) → RecordsAtEnd target after stopped new
-            → HasNotSalvaged target (LogFull k) old new
-        full_own k after stopped new is w leaves =
-            let a = all_at (λ but stored. (stopped ≡ stored) × HasFullLog target but (in_runs listed) stored.array) w in
-            let leaving : RecordsAtEnd target after w.stored new = subst (λ (v : MirrorView). RecordsAtEnd target after v new) w.why.0 leaves in
-            let left = left_moves target listed after w.stored new (λ running. a.sound) leaving in
-            let full = left_full target after w.stored new (in_chunks_but filled.array.chunks missing listed) (in_runs listed) a.sound leaving w.why.1 in
-            let now : HasFullLog target (in_chunks_but old.array.chunks missing listed) (in_runs listed) new.array =
-            subst (λ (q : Chunks). HasFullLog target (in_chunks_but q missing listed) (in_runs listed) new.array) (filled_at listed).moves.pre.chunks full in
-            not_salvaged_moved target (LogFull k) lost listed old new m b.at (moves_on target listed old w.stored new a.moves left)
-            (far new (moves_on target listed filled w.stored new (all_moves (λ but stored. (stopped ≡ stored) × HasFullLog target but (in_runs listed) stored.array) w) left))
-            (inr (record {
-              running = left_running target after w.stored new a.running leaving;
-              united = wide;
-              full = inl (is, (missing, subst (λ (j : ℕ). HasFullLog j (in_chunks_but old.array.chunks missing listed) (in_runs listed) new.array) (sym is) now));
-            }))
-          where
-            no_room : HaveRoomFor target missing filled.array listed → ⊥
-            no_room room =
-                let full = w.why.1 in
-                let same : full.member ≡ fl.now = own_stored (λ but stored. (stopped ≡ stored) × HasFullLog target but (in_runs listed) stored.array) w fl.now full.member fl.there full.at in
-                full.full (subst (λ (q : MemberView). HasRoomFor q.superblock full.list) (sym same)
-                (room.own fl.now full.list fl.there (subst (λ (q : MemberView). IsListOf (in_chunks_but filled.array.chunks missing listed) (in_runs listed) q full.list) same full.list_is)))
+          wide : fits.gap ≡ 510
+          wide = elim fits.fits [ inl gap ↦ gap | inr room ↦ absurd (no_room room) ]
 
-            wide : fits.gap ≡ 510
-            wide = elim fits.fits [ inl gap ↦ gap | inr room ↦ absurd (no_room room) ]
+          still_full : (after : Bitmap) (new : MirrorView) → RecordsAtEnd target after filled new
+              → ((k ≡ target) × ((missing : Bitmap) × HasFullLog k (in_chunks_but old.array.chunks missing listed) (in_runs listed) new.array)) ⊎ HasFullLogForMore k (in_runs listed) new.array
+          still_full after new leaves = elim lacks [
+            | inl own ↦
+                let full = left_full target after filled new (in_chunks_but filled.array.chunks missing listed) (in_runs listed) go_f.ready.sound leaves own.1 in
+                let now : HasFullLog target (in_chunks_but old.array.chunks missing listed) (in_runs listed) new.array =
+                subst (λ (q : Chunks). HasFullLog target (in_chunks_but q missing listed) (in_runs listed) new.array) (filled_at listed).moves.pre.chunks full in
+                inl (own.0, (missing, subst (λ (j : ℕ). HasFullLog j (in_chunks_but old.array.chunks missing listed) (in_runs listed) new.array) (sym own.0) now))
+            | inr more ↦
+                let other : k ≢ target = λ same.
+                both_ways (is_in_sync more.member.state) (out_of_sync more.member.state (recovers more.member (ap (slice_get filled.array.members) (sym same) ∙ more.in_sync.member))) more.in_sync.in_sync in
+                inr (record {
+                  running = left_running target after filled new go_f.ready.goes.idle.running leaves;
+                  member = more.member;
+                  at = left_other target after filled new (λ running. go_f.ready.sound) leaves k other ∙ more.in_sync.member;
+                  list = more.list;
+                  list_is = more.list_is;
+                  full = more.full;
+                })
+          ]
+
+          log_full : (after : Bitmap) (stopped new : MirrorView) → stopped ≡ filled → RecordsAtEnd target after stopped new → HasNotSalvaged target (LogFull k) old new
+          log_full after stopped new same leaves =
+              let leaving : RecordsAtEnd target after filled new = subst (λ (v : MirrorView). RecordsAtEnd target after v new) same leaves in
+              let a = filled_at listed in
+              let left = left_moves target listed after filled new (λ running. a.sound) leaving in
+              let none : Moves target [] old new = moves_on target [] old filled new (filled_at []).moves (left_moves target [] after filled new (λ running. a.sound) leaving) in
+              not_salvaged_moved target (LogFull k) lost listed old new m b.at (moves_on target listed old filled new a.moves left) (far new left)
+              (inr (record {
+                running = left_running target after filled new a.running leaving;
+                united = wide;
+                lists = lists_stay target old new none;
+                full = still_full after new leaving;
+              }))
 
         -- a list can't be stored
         module _ (k : ℕ) (nothing : Bitmap) (noted stopped new : MirrorView) (notes : NotesLost listed filled noted) (stops : EndsAtList every_role k noted stopped) (leaves : RecordsAtEnd target nothing stopped new) where
@@ -541,11 +518,13 @@ module _ (target : ℕ) where
           list_stops = not_salvaged target (MetadataFault k) lost listed old noted new new m b.at moves_n rest_lost (lasts_none target (MetadataFault k) new) stays_lost (far noted moves_fn) (other, lost_so)
 
         without : (after : Bitmap) (stopped new : MirrorView) (fault : RebuildFault) → FailsWithout target missing listed filled stopped fault → LeavesSo target after stopped new fault → HasNotSalvaged target fault old new
-        without after stopped new (LogFull k) (inl n) leaves = full_some k after stopped new n leaves
-        without after stopped new (LogFull k) (inr x) leaves = full_own k after stopped new x.0 x.1 leaves
-        without after stopped new NoMemory (inl n) leaves =
+        without after stopped new (LogFull k) x leaves = log_full k x.1 after stopped new x.0 leaves
+        without after stopped new NoMemory (inl same) leaves =
+            no_memory after lost listed old stopped new m b.at (subst (IsAt target listed old) (sym same) (filled_at listed)) leaves
+            (λ left. far new (subst (λ (v : MirrorView). Moves target listed v new) same left))
+        without after stopped new NoMemory (inr (inl n)) leaves =
             no_memory after lost listed old stopped new m b.at (some_at stopped NoMemory n) leaves (λ left. far new (moves_on target listed filled stopped new (some_moves stopped NoMemory n) left))
-        without after stopped new NoMemory (inr w) leaves =
+        without after stopped new NoMemory (inr (inr w)) leaves =
             let is = w.why in
             no_memory after lost listed old stopped new m b.at (subst (IsAt target listed old) (sym is) (all_at (λ but stored. stopped ≡ stored) w)) leaves
             (λ left. far new (moves_on target listed filled stopped new (subst (Moves target listed filled) (sym is) (all_moves (λ but stored. stopped ≡ stored) w)) left))

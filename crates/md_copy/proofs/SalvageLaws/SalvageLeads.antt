@@ -28,7 +28,7 @@ use Rattle.md_copy.specs.declared.salvaging.salvaged.Salvaged.{Salvaged}
 use Rattle.md_copy.proofs.Done.RebuiltByCall.{IsLast, last_of}
 use Rattle.md_copy.proofs.Leads.RebuildLeads.{Before, LeadsIn, as_such, before_of, begin_events, begin_holds, begin_leads, both_lead, either, either_list, events_either, gone_leads, leads_by, listing_leads, lowering, lowering_list, none_lead, noting_leads, recorded_events, recorded_leads, some_offset, storing_of, stretches_list, stretches_offsets}
 use Rattle.md_copy.proofs.Passing.PassesTold.{HoldsSoFar, holds_alone, stretches_hold}
-use Rattle.md_copy.proofs.SalvageLaws.ChunkRuns.{GoesSoFar, salvaged_events, salvaged_filling, salvaged_go, salvaged_lead}
+use Rattle.md_copy.proofs.SalvageLaws.ChunkRuns.{GoesSoFar, salvaged_events, salvaged_filling, salvaged_lead}
 
 -- ---- once the pass is made
 module _ (target : ℕ) (m : MemberView) (pass : PassView) (none whole : Bitmap) (ready passed : MirrorView) (r : RecordsPass target (missing_chunks ready.array m) pass none whole ready passed)

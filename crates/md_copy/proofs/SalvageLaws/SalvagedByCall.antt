@@ -1,14 +1,12 @@
 -- What a salvage makes of its target from before the call to after it.
-use Rattle.std.proofs.Common.{◌≡◌, ◌≢◌, ◌∙◌, ◌⊎◌, ◌↔◌, ℕ, Bool, ◌+◌, ◌<◌, ◌≤◌, true, None, List, [], Contains, count_by, map, length, slice_get, Some, refl, sym, ap, subst, arith, inl, inr}
+use Rattle.std.proofs.Common.{◌≡◌, ◌≢◌, ◌∙◌, ◌↔◌, ℕ, Bool, ◌+◌, ◌<◌, ◌≤◌, true, None, List, [], count_by, map, slice_get, Some, refl, sym, ap, subst, arith, inl, inr}
 use Rattle.std.specs.Prelude.{All}
-use Rattle.std.specs.List.{Any}
 use Rattle.std.specs.Int.{bit_at}
 use Rattle.std.proofs.lemmas.List.{length-map}
 use Rattle.std.proofs.lemmas.List.Elements.{All-weaker}
 use Rattle.std.proofs.lemmas.Option.{none-some, same_Some, slice_get_within}
 use Rattle.md_assembly.proofs.Indices.{got_within}
 use Rattle.md_assembly.specs.States.{is_in_sync, is_in_sync_as}
-use Rattle.md_assembly.specs.declared.state.MemberState.TheVariants.{Faulty}
 use Rattle.md_badblocks.specs.declared.run.Run.{Run}
 use Rattle.md_badblocks.specs.Runs.{IsBad, IsCanonical}
 use Rattle.md_bitmap.specs.declared.chunks.Chunks.{Chunks}
@@ -20,8 +18,7 @@ use Rattle.md_kept_members.specs.SectorLists.{in_chunks_but, in_runs}
 use Rattle.md_kept_members.specs.View.{MemberView}
 use Rattle.md_model.specs.Events.{Event}
 use Rattle.md_pass.specs.Readings.{is_of}
-use Rattle.md_state.specs.DiskWrites.{AtDevice}
-use Rattle.md_state.specs.Members.{IsInSync, IsMember}
+use Rattle.md_state.specs.Members.{IsMember}
 use Rattle.md_state.specs.View.{ArrayView, Disk, MirrorView, of_disks}
 use Rattle.md_array.specs.Consistency.{IsConsistent}
 use Rattle.md_array.specs.InTurn.{Leads}
@@ -30,10 +27,10 @@ use Rattle.md_array.proofs.General.Indices.{at_map, at_set_same, got_in_map, got
 use Rattle.md_array.proofs.Rebuilding.MemberEnrolled.{holds_enrolled, lists_now}
 use Rattle.md_array.proofs.StepLemmas.Record.{listed_written}
 use Rattle.md_copy.specs.Filling.{CountsFailed, HaveFailedThere}
-use Rattle.md_copy.specs.Listing.{HasFailedSlot, HasListOn, StoresLists}
+use Rattle.md_copy.specs.Listing.{HasFailedSlot, StoresLists}
 use Rattle.md_copy.specs.PassLaws.Listed.{IsArrayPass, MayServe}
 use Rattle.md_copy.specs.Rebuilding.{BeginsRebuild}
-use Rattle.md_copy.specs.Rebuilt.{FailsWrite, KeepStates}
+use Rattle.md_copy.specs.Rebuilt.{KeepStates}
 use Rattle.md_copy.specs.Salvaging.Losing.{EnrolsWithout, NotesLost, every_role}
 use Rattle.md_copy.specs.Salvaging.Salvaged.{HasSalvaged, IsSalvaged}
 use Rattle.md_copy.specs.Salvaging.Steps.{FillsBut, Salvages, SalvagesReadied}

@@ -1,26 +1,21 @@
 -- What is salvaged from the mirror that a salvage starts from is salvaged from the one before it.
-use Rattle.std.proofs.Common.{◌≡◌, ◌≢◌, ◌∙◌, ◌⊎◌, ◌↔◌, ℕ, ◌+◌, ◌*◌, ◌/◌, ◌<◌, ◌≤◌, true, List, slice_get, Some, sym, ap, subst, arith, inl, inr}
-use Rattle.md_assembly.specs.States.{is_in_sync}
+use Rattle.std.proofs.Common.{◌≡◌, ◌≢◌, ◌∙◌, ◌⊎◌, ◌↔◌, ℕ, ◌+◌, ◌*◌, ◌/◌, ◌<◌, true, List, sym, ap, subst, arith, inl, inr}
 use Rattle.md_badblocks.specs.declared.run.Run.{Run}
 use Rattle.md_badblocks.specs.Runs.{IsBad}
 use Rattle.md_bitmap.specs.declared.chunks.Chunks.{Chunks}
-use Rattle.md_bitmap.specs.Marks.{Bitmap}
 use Rattle.md_bitmap.proofs.Limits.{div-lt-div_ceil}
 use Rattle.md_device.specs.Failing.{SomeNewFault, failed_read}
 use Rattle.md_device.specs.Splice.{part}
 use Rattle.md_device.specs.declared.fault_list.Fault.{Fault}
 use Rattle.md_device.proofs.Failing.{fails_since}
 use Rattle.md_kept_members.specs.View.{MemberView}
-use Rattle.md_model.specs.Content.{Content}
 use Rattle.md_read.specs.Reading.{IsReadOfMember, NoneGives}
 use Rattle.md_state.specs.Members.{IsInSync, IsMember}
 use Rattle.md_state.specs.Missing.{is_missing}
-use Rattle.md_state.specs.View.{Disk, MirrorView}
+use Rattle.md_state.specs.View.{MirrorView}
 use Rattle.md_array.specs.Consistency.{IsConsistent}
-use Rattle.md_array.specs.Steps.Enrol.{HoldsContent}
-use Rattle.md_array.specs.Worlds.{AreHonest}
 use Rattle.md_copy.specs.Salvaging.Salvaged.{IsBesideWritten, IsSalvaged, IsSectorServedThen}
-use Rattle.md_copy.specs.Salvaging.Sectors.{IsLacked, bytes_of_sector}
+use Rattle.md_copy.specs.Salvaging.Sectors.{IsLacked}
 use Rattle.md_copy.proofs.Ready.StartedAs.{IsAs, StartsAs, starts_honest}
 
 -- what no member in sync gives from then on none gives in all

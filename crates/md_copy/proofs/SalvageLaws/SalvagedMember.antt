@@ -1,11 +1,10 @@
 -- What a salvage makes of its target from the moment that it is readied.
-use Rattle.std.proofs.Common.{◌≡◌, ◌≢◌, ◌∙◌, ◌⊎◌, ◌↔◌, ℕ, ◌+◌, ◌-◌, ◌*◌, ◌/◌, ◌^◌, ◌<◌, ◌≤◌, ◌&&◌, Bool, true, false, not, nat_lt, List, [], ◌∷◌, min, length, slice_get, Some, refl, sym, ap, subst, arith, inl, inr}
-use Rattle.std.specs.Int.{div_ceil}
+use Rattle.std.proofs.Common.{◌≡◌, ◌≢◌, ◌∙◌, ◌⊎◌, ◌↔◌, ℕ, ◌+◌, ◌-◌, ◌*◌, ◌/◌, ◌<◌, ◌≤◌, ◌&&◌, Bool, true, false, not, nat_lt, List, [], min, slice_get, Some, refl, sym, ap, subst, arith, inl, inr}
 use Rattle.std.proofs.lemmas.Bool.{and_parts, both_ways, cases_Bool, cases_lt}
 use Rattle.std.proofs.lemmas.Bool.Decides.{nat_tests}
 use Rattle.std.proofs.lemmas.Option.{same_Some, slice_get_within}
 use Rattle.md_assembly.proofs.Indices.{got_within}
-use Rattle.md_assembly.specs.States.{is_in_sync, is_recovering}
+use Rattle.md_assembly.specs.States.{is_in_sync}
 use Rattle.md_badblocks.specs.declared.run.Run.{Run}
 use Rattle.md_badblocks.specs.Runs.{IsBad}
 use Rattle.md_bitmap.specs.declared.chunks.Chunks.{Chunks}
@@ -14,7 +13,7 @@ use Rattle.md_bitmap.specs.Marks.{Bitmap, is_set}
 use Rattle.md_bitmap.proofs.Limits.{div-lt-div_ceil}
 use Rattle.md_copy.specs.PassLaws.Passes.{slots_of_pass}
 use Rattle.md_device.specs.Splice.{part}
-use Rattle.md_kept_members.specs.SectorLists.{IsPlaced, in_chunks, in_chunks_but, in_runs}
+use Rattle.md_kept_members.specs.SectorLists.{in_chunks, in_chunks_but, in_runs}
 use Rattle.md_kept_members.specs.View.{MemberView}
 use Rattle.md_kept_members.proofs.SectorSets.{bad_in, in_bad}
 use Rattle.md_model.specs.Content.{Content}
@@ -23,8 +22,7 @@ use Rattle.md_device.proofs.Failing.{fails_still}
 use Rattle.md_read.specs.Reading.{IsReadOfMember, NoneGives}
 use Rattle.md_state.specs.Members.{IsInSync, IsMember}
 use Rattle.md_state.specs.Missing.{is_missing}
-use Rattle.md_state.specs.Steps.CopyData.{Lists}
-use Rattle.md_state.specs.View.{ArrayView, Disk, MirrorView}
+use Rattle.md_state.specs.View.{Disk, MirrorView}
 use Rattle.md_array.specs.Consistency.{IsConsistent}
 use Rattle.md_array.specs.Steps.Enrol.{HoldsContent, KeepsData}
 use Rattle.md_array.specs.Steps.Lend.{IsBesideChunk}
@@ -35,7 +33,6 @@ use Rattle.md_copy.specs.Salvaging.Losing.{EnrolsWithout}
 use Rattle.md_copy.specs.Salvaging.Salvaged.{IsBesideWritten, IsSalvaged, IsSectorServedThen}
 use Rattle.md_copy.specs.Salvaging.Sectors.{AreSectorsHeld, IsLacked, IsSectorHeld, bytes_of_sector}
 use Rattle.md_copy.specs.Salvaging.Steps.{FillsBut, SalvagesReadied}
-use Rattle.md_copy.specs.Salvaging.United.{LiesInGap}
 use Rattle.md_copy.specs.Table.Sources.{missing_chunks}
 use Rattle.md_copy.specs.declared.salvaging.salvaged.Salvaged.{Salvaged}
 use Rattle.md_copy.proofs.Held.HeldRecorded.{out_of_sync}
@@ -43,10 +40,10 @@ use Rattle.md_copy.proofs.Passing.PassesKeep.{PassesKeep, pass_keeps}
 use Rattle.md_copy.proofs.Passing.PassesLack.{pass_lacks}
 use Rattle.md_copy.proofs.Passing.PassesTold.{HoldsSoFar}
 use Rattle.md_copy.proofs.SalvageLaws.ChunkRuns.{GoesSoFar, salvaged_go}
-use Rattle.md_copy.proofs.SalvageLaws.ChunksTo.{all_to, filled_all, lost_none, none_after, none_before}
-use Rattle.md_copy.proofs.SalvageLaws.LastSteps.{last_bad, last_counted, last_grown, last_honest, last_many, last_own, last_state, other_data, other_lists, other_out, other_then, own_data, own_list, sector_short}
+use Rattle.md_copy.proofs.SalvageLaws.ChunksTo.{all_to, filled_all, lost_none, none_before}
+use Rattle.md_copy.proofs.SalvageLaws.LastSteps.{last_bad, last_counted, last_grown, last_many, last_own, last_state, other_data, other_lists, other_out, other_then, own_data, own_list, sector_short}
 use Rattle.md_copy.proofs.SalvageLaws.SalvageLeads.{passed_goes, passed_holds}
-use Rattle.md_copy.proofs.SalvageLaws.SectorsBeside.{byte_same, salvaged_byte, same_bytes}
+use Rattle.md_copy.proofs.SalvageLaws.SectorsBeside.{salvaged_byte, same_bytes}
 use Rattle.md_copy.proofs.SalvageLaws.SectorsKept.{DevicesStay, IsAlike, Stays, between, disk_was, pass_stay, salvaged_stay, stays_on}
 use Rattle.md_copy.proofs.SalvageLaws.SectorsLacked.{AreLossyClear, copied_missing, lossy_clear, missing_was}
 use Rattle.md_copy.proofs.SalvageLemmas.HeldSectors.{sectors_of_chunks}

@@ -1,5 +1,5 @@
 -- A salvage leaves what lies beside the sectors that it writes, byte by byte: also those of a chunk that it could not give.
-use Rattle.std.proofs.Common.{◌≡◌, ◌≢◌, ◌∙◌, ◌⊎◌, ℕ, zero, suc, ◌+◌, ◌-◌, ◌*◌, ◌/◌, ◌<◌, ◌≤◌, true, false, List, [], ◌∷◌, ◌++◌, drop, take, drop-drop, slice_get, refl, sym, ap, subst, arith, inl, inr}
+use Rattle.std.proofs.Common.{◌≡◌, ◌≢◌, ◌∙◌, ◌⊎◌, ℕ, zero, suc, ◌+◌, ◌-◌, ◌*◌, ◌/◌, ◌<◌, ◌≤◌, false, List, [], ◌∷◌, ◌++◌, drop, take, drop-drop, slice_get, refl, sym, ap, subst, arith, inl, inr}
 use Rattle.std.proofs.lemmas.Bool.{both_ways, cases_Bool, cases_lt}
 use Rattle.std.proofs.lemmas.List.{drop-take, take-append-drop, take-take}
 use Rattle.std.proofs.lemmas.Option.{same_Some}
@@ -19,7 +19,7 @@ use Rattle.md_state.specs.Missing.{is_missing}
 use Rattle.md_state.specs.View.{ArrayView, Disk, MirrorView}
 use Rattle.md_array.proofs.Rebuilding.HeldContent.{chunk_unique}
 use Rattle.md_copy.specs.Salvaging.Filling.{AreSalvaged, FillsChunk, SalvagesChunk}
-use Rattle.md_copy.specs.Salvaging.Sectors.{IsLacked, bytes_of_sector}
+use Rattle.md_copy.specs.Salvaging.Sectors.{IsLacked}
 use Rattle.md_copy.proofs.Held.HeldRecorded.{chunks_is, data_kept, lacked}
 use Rattle.md_copy.proofs.SalvageLaws.SectorsKept.{between, chunk_filled_stay, chunk_stays}
 

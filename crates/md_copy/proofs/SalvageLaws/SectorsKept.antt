@@ -1,5 +1,5 @@
 -- What a salvage leaves as it was up to the moment at which the target may come into sync: its members, and all data but the target's.
-use Rattle.std.proofs.Common.{◌≡◌, ◌≢◌, ◌∙◌, ◌⊎◌, ℕ, ◌+◌, ◌*◌, ◌≤◌, true, List, [], ◌∷◌, length, slice_get, Some, refl, sym, ap, subst, arith, inl, inr}
+use Rattle.std.proofs.Common.{◌≡◌, ◌≢◌, ◌∙◌, ℕ, ◌≤◌, List, [], ◌∷◌, length, slice_get, Some, refl, sym, ap, subst, arith, inl, inr}
 use Rattle.std.proofs.lemmas.Bool.{cases_eq}
 use Rattle.std.proofs.lemmas.Option.{same_Some, slice_get_within}
 use Rattle.md_assembly.proofs.Indices.{got_within}
@@ -18,7 +18,7 @@ use Rattle.md_array.specs.Steps.Checkpoint.{Checkpoints}
 use Rattle.md_array.specs.Steps.Enrol.{KeepsData}
 use Rattle.md_copy.specs.Passing.{RecordsPass}
 use Rattle.md_copy.specs.Salvaging.Filling.{AreSalvaged, FillsWithin, SalvagesChunk}
-use Rattle.md_copy.specs.Stretches.{AreRecorded, slots_after, slots_before}
+use Rattle.md_copy.specs.Stretches.{AreRecorded, slots_after}
 use Rattle.md_copy.proofs.Failing.{HasGrown, grown_same, grown_then}
 use Rattle.md_copy.proofs.Held.HeldRecorded.{chunks_is, marks_is, other_is, recorded_is, target_same}
 use Rattle.md_copy.proofs.Passing.PassesKeep.{PassesKeep, pass_keeps}

@@ -1,5 +1,5 @@
 -- A salvage that is refused is a list of events of the array's model, of which the last may spoil its target.
-use Rattle.std.proofs.Common.{◌≡◌, ◌≢◌, ◌∙◌, ◌⊎◌, ℕ, Bool, true, false, None, List, [], ◌∷◌, ◌++◌, append_assoc, append-nil, slice_get, refl, sym, ap, subst, arith, inl, inr}
+use Rattle.std.proofs.Common.{◌≡◌, ◌≢◌, ◌∙◌, ◌⊎◌, ℕ, Bool, true, None, List, [], ◌∷◌, ◌++◌, append_assoc, slice_get, refl, sym, ap, subst, arith, inl, inr}
 use Rattle.std.proofs.lemmas.Bool.{both_ways, cases_lt}
 use Rattle.std.proofs.lemmas.Option.{slice_get_within}
 use Rattle.md_assembly.proofs.Indices.{got_within}
@@ -13,30 +13,30 @@ use Rattle.md_state.specs.Members.{IsMember}
 use Rattle.md_state.specs.Requests.{IsPending}
 use Rattle.md_state.specs.View.{ArrayView, MirrorView}
 use Rattle.md_array.specs.Consistency.{IsConsistent}
-use Rattle.md_array.specs.Steps.Enrol.{FailsToEnrol, MayEnrolSectors}
+use Rattle.md_array.specs.Steps.Enrol.{FailsToEnrol}
 use Rattle.md_array.specs.Steps.EnrolEvents.{FailsAtSuper}
 use Rattle.md_array.proofs.Rebuilding.Checkpoint.{checkpoint_spoils}
 use Rattle.md_array.proofs.Rebuilding.EnrolSpoils.{unenrol_leads}
 use Rattle.md_array.proofs.Rebuilding.PreparedEvent.{prepare_happens}
 use Rattle.md_array.proofs.StepLemmas.FailedParts.{halted_then}
 use Rattle.md_array.proofs.StepLemmas.Turns.{all_on}
-use Rattle.md_copy.specs.Leaving.{LeavesSo, RecordsAtEnd}
+use Rattle.md_copy.specs.Leaving.{LeavesSo}
 use Rattle.md_copy.specs.Listing.{StoresLists}
 use Rattle.md_copy.specs.PassLaws.Passes.{PassView}
-use Rattle.md_copy.specs.Passing.{BreaksOffPass, FailsRecording, LacksMemoryToPass, RecordsPass}
-use Rattle.md_copy.specs.RebuildEvents.{AreOfLeaving, FailsAtMarks, IsBeforeEnrol, LeadsOrHalts}
-use Rattle.md_copy.specs.Rebuilding.{BeginsRebuild, EndsReadied, EndsStoring, LosesTarget, RefusesRebuild}
+use Rattle.md_copy.specs.Passing.{BreaksOffPass, FailsRecording, RecordsPass}
+use Rattle.md_copy.specs.RebuildEvents.{FailsAtMarks, LeadsOrHalts}
+use Rattle.md_copy.specs.Rebuilding.{BeginsRebuild, EndsStoring, LosesTarget, RefusesRebuild}
 use Rattle.md_copy.specs.Readying.{RefusesToReady}
-use Rattle.md_copy.specs.Salvaging.Filling.{AreSalvaged, BreaksFilling, EndsAtChunk, EndsSalvaging, FillsWithin, IsTargetLeft}
+use Rattle.md_copy.specs.Salvaging.Filling.{AreSalvaged, BreaksFilling, EndsAtChunk, FillsWithin, IsTargetLeft}
 use Rattle.md_copy.specs.Salvaging.Losing.{EndsNotingLost, EndsWithout, FailsWithout, NotesLost, NotesLostBelow, every_role}
 use Rattle.md_copy.specs.Salvaging.SalvageEvents.{LeadsUnsalvaged}
-use Rattle.md_copy.specs.Salvaging.Steps.{CannotSalvage, EndsSalvageReadied, FailsWhole, FillsBut, RefusesSalvage}
+use Rattle.md_copy.specs.Salvaging.Steps.{EndsSalvageReadied, FailsWhole, FillsBut, RefusesSalvage}
 use Rattle.md_copy.specs.Table.Sources.{missing_chunks}
 use Rattle.md_copy.specs.declared.beginning.fault.RebuildFault.{RebuildFault}
 use Rattle.md_copy.specs.declared.beginning.fault.RebuildFault.TheVariants.{Halted, NotSpare, Dirty, InFlight, LogFull, NoMemory, TargetFault, MetadataFault, EventsFull}
 use Rattle.md_copy.proofs.Held.HeldRecorded.{out_of_sync}
 use Rattle.md_copy.proofs.Leads.RebuildLeads.{Before, LeadsIn, begin_events, begin_holds, begin_leads, both_lead, leads_by, listing_before, listing_leads, noting_leads, one_leads, recorded_events, recorded_leads}
-use Rattle.md_copy.proofs.Leads.RefusedLeads.{ComesTo, HaltsAtEnd, LeadsSo, LeadsTo, Spoils, StopsSo, Unfinished, as_unfinished, last_after, leads_spoiled, leads_there, left_leads, left_there, none, refused_leads}
+use Rattle.md_copy.proofs.Leads.RefusedLeads.{ComesTo, LeadsSo, LeadsTo, Spoils, StopsSo, Unfinished, as_unfinished, last_after, leads_spoiled, leads_there, left_leads, left_there, none, refused_leads}
 use Rattle.md_copy.proofs.Leads.UnfinishedEnrol.{fails_somewhere, prepares}
 use Rattle.md_copy.proofs.Passing.PassesTold.{HoldsSoFar}
 use Rattle.md_copy.proofs.Ready.ReadyStill.{list_recovers}
@@ -280,10 +280,10 @@ module _ (target : ℕ) where
 
       fails_without : (after : Bitmap) (stopped new : MirrorView) (fault : RebuildFault) → FailsWithout target missing listed filled stopped fault → LeavesSo target after stopped new fault → IsConsistent new
           → LeadsUnsalvaged target old new
-      fails_without after stopped new (LogFull k) (inl n) leaves sound = unsalvaged old new _ (left_there target after old stopped new (noted_comes (LogFull k) stopped n) leaves sound)
-      fails_without after stopped new (LogFull k) (inr x) leaves sound = unsalvaged old new _ (left_there target after old stopped new (same_comes _ x.1 stopped x.1.why.0) leaves sound)
-      fails_without after stopped new NoMemory (inl n) leaves sound = unsalvaged old new _ (left_there target after old stopped new (noted_comes NoMemory stopped n) leaves sound)
-      fails_without after stopped new NoMemory (inr w) leaves sound = unsalvaged old new _ (left_there target after old stopped new (same_comes _ w stopped w.why) leaves sound)
+      fails_without after stopped new (LogFull k) x leaves sound = unsalvaged old new _ (left_there target after old stopped new (subst (ComesTo target old) (sym x.0) come) leaves sound)
+      fails_without after stopped new NoMemory (inl same) leaves sound = unsalvaged old new _ (left_there target after old stopped new (subst (ComesTo target old) (sym same) come) leaves sound)
+      fails_without after stopped new NoMemory (inr (inl n)) leaves sound = unsalvaged old new _ (left_there target after old stopped new (noted_comes NoMemory stopped n) leaves sound)
+      fails_without after stopped new NoMemory (inr (inr w)) leaves sound = unsalvaged old new _ (left_there target after old stopped new (same_comes _ w stopped w.why) leaves sound)
       fails_without after stopped new (MetadataFault k) f leaves sound = unsalvaged old new _ (left_leads target k leaves.0 old stopped new (list_stops k stopped f) leaves.2 sound)
       fails_without after stopped new TargetFault w leaves sound = subst (LeadsUnsalvaged target old) (sym leaves) (unenrolled stopped w (subst IsConsistent leaves sound))
       fails_without after stopped new Halted f leaves sound = absurd f

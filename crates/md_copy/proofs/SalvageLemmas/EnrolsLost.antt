@@ -1,5 +1,5 @@
 -- Lost sectors are listed on all members in sync, and the target comes into sync without them, or it does not.
-use Rattle.std.proofs.Common.{◌≡◌, ◌∙◌, ◌⊎◌, ℕ, ◌/◌, ◌<◌, Bool, true, false, true≢false, not, ◌&&◌, nat_lt, List, [], Result, Ok, Err, MatchResult, sym, ap, subst, arith, ltb-true, lt-ltb, inl, inr}
+use Rattle.std.proofs.Common.{◌≡◌, ◌∙◌, ◌⊎◌, ℕ, ◌/◌, ◌<◌, Bool, true, false, true≢false, not, ◌&&◌, nat_lt, List, [], Result, Ok, Err, MatchResult, refl, sym, ap, subst, arith, ltb-true, lt-ltb, inl, inr}
 use Rattle.std.specs.Prelude.{IfErr}
 use Rattle.std.proofs.lemmas.Bool.{and_from, and_parts, not-true}
 use Rattle.std.proofs.lemmas.Option.{same_Some, slice_get_within}
@@ -11,11 +11,12 @@ use Rattle.md_badblocks.specs.Runs.{IsBad}
 use Rattle.md_bitmap.specs.declared.chunks.Chunks.{Chunks}
 use Rattle.md_bitmap.specs.Marks.{Bitmap, is_set}
 use Rattle.md_bitmap.proofs.Limits.{div-lt-div_ceil}
-use Rattle.md_kept_members.specs.SectorLists.{in_chunks, in_chunks_but, in_runs}
+use Rattle.md_kept_members.specs.Enrolling.{HasRoomFor}
+use Rattle.md_kept_members.specs.SectorLists.{IsListMore, IsListOf, in_chunks, in_chunks_but, in_runs}
 use Rattle.md_kept_members.specs.View.{MemberView}
 use Rattle.md_kept_members.proofs.SectorSets.{bad_in, in_bad}
 use Rattle.md_model.proofs.Cases.{by_test}
-use Rattle.md_state.specs.Members.{AllInSync, IsMember}
+use Rattle.md_state.specs.Members.{AllInSync, IsInSync, IsMember}
 use Rattle.md_state.specs.Missing.{AreMissing, is_missing}
 use Rattle.md_state.specs.Steps.Enrol.{HasFullLog}
 use Rattle.md_state.specs.Steps.WriteMember.{IsNotDue}
@@ -25,6 +26,7 @@ use Rattle.md_copy.specs.declared.beginning.fault.RebuildFault.TheVariants.{Halt
 use Rattle.md_copy.specs.Listing.{EndsStoringLists, StoresLists}
 use Rattle.md_copy.specs.Ready.{IsReadyToCopy, IsRecordable}
 use Rattle.md_copy.specs.Salvaging.Filling.{AllAreFilled}
+use Rattle.md_copy.specs.Salvaging.Fitting.{FailsLook, HasOwnRoom, HaveRoomFor}
 use Rattle.md_copy.specs.Salvaging.Leaving.{MayLeaveSalvaged}
 use Rattle.md_copy.specs.Salvaging.Losing.{EndsListingLost, EndsNotingLost, EnrolsWithout, FailsWithout, ListsLost, NotesLost, RefusesToEnrolLost, every_role}
 use Rattle.md_copy.specs.Salvaging.Sectors.{AreSectorsHeld, IsLacked}
@@ -40,6 +42,31 @@ module _ (lost : List Run) (old noted new : MirrorView) where
   lists_then notes (Ok x) stores = inr (noted, notes, stores)
   lists_then notes (Err (MetadataFault k)) stops = (noted, notes, stops)
   lists_then notes (Err fault) stops = absurd stops
+
+-- ---- the logs are looked at first
+-- The log of a member in sync that had room can't be full when its turn comes.
+noting_has_room : (target : ℕ) (missing : Bitmap) (lost : List Run) (v w : MirrorView) (k : ℕ) → HaveRoomFor target missing v.array lost → EndsNotingLost lost v w (LogFull k) → ⊥
+noting_has_room target missing lost v w k room n =
+    let full = n.why.2 in
+    let on = n.why.3 full.member full.at in
+    let low = slice_get_within w.array.members n.index full.member full.at in
+    let many = n.notes.goes.array.as_many in
+    let z = got_within v.array.members n.index (omega (arith, low, many)) in
+    let same : full.member ≡ z.0 = n.notes.rest n.index z.0 full.member (omega arith) z.1 full.at in
+    let was : IsInSync v.array n.index z.0 = record { member = z.1; in_sync = ap (λ (q : MemberView). is_in_sync q.state) (sym same) ∙ on } in
+    full.full (subst (λ (q : MemberView). HasRoomFor q.superblock full.list) (sym same) (room.in_sync n.index z.0 full.list was (subst (λ (q : MemberView). IsListMore (in_runs lost) q full.list) same full.list_is)))
+
+-- one has no room, or memory is refused for the look
+pub looking_fails : (target : ℕ) (missing : Bitmap) (lost : List Run) (v : MirrorView) (fault : RebuildFault) → FailsLook target missing lost v.array fault → FailsWithout target missing lost v v fault
+looking_fails target missing lost v (LogFull k) h = (refl, h)
+looking_fails target missing lost v NoMemory h = inl refl
+looking_fails target missing lost v fault h = absurd h
+
+pub looking_leaves : (target : ℕ) (missing copied : Bitmap) (lost : List Run) (v : MirrorView) → IsReadyToCopy target v → AreSectorsHeld v target copied → (fault : RebuildFault) → FailsLook target missing lost v.array fault
+    → MayLeaveSalvaged target copied v fault
+looking_leaves target missing copied lost v ready held (LogFull k) h = (recordable target v ready, held)
+looking_leaves target missing copied lost v ready held NoMemory h = (recordable target v ready, held)
+looking_leaves target missing copied lost v ready held fault h = absurd h
 
 -- no superblock came to be due
 pub noted_recorded : (lost : List Run) (v w : MirrorView) → NotesLost lost v w → AllInSync v.array IsNotDue → AllInSync w.array IsNotDue
@@ -175,26 +202,20 @@ module _ (target : ℕ) (missing : Bitmap) (lost : List Run) (v w : MirrorView) 
           enrols = subst (λ (f : ℕ → Bool). Enrols target f (in_runs lost) w x) same_sets h;
         }
 
-    pub refuses_lost : (x : MirrorView) (fault : RebuildFault) → RefusesToEnrolLost target (in_chunks_but w.array.chunks missing lost) lost w x fault → FailsWithout target missing lost v x fault
-    refuses_lost x (LogFull k) h =
+    -- the target's log had room, and has it still
+    no_full : HasOwnRoom target missing v.array lost → HasFullLog target (in_chunks_but w.array.chunks missing lost) (in_runs lost) w.array → ⊥
+    no_full room full =
+        let there = target_there target lost v w ready.sound grown m at (ready.recovering m at) in
+        let same : full.member ≡ m = same_Some full.member m (sym full.at ∙ there) in
+        let list = subst (λ (f : ℕ → Bool). IsListOf f (in_runs lost) full.member full.list) same_sets full.list_is in
+        full.full (subst (λ (q : MemberView). HasRoomFor q.superblock full.list) (sym same) (room m full.list at (subst (λ (q : MemberView). IsListOf (in_chunks_but v.array.chunks missing lost) (in_runs lost) q full.list) same list)))
+
+    pub refuses_lost : HasOwnRoom target missing v.array lost → (x : MirrorView) (fault : RebuildFault) → RefusesToEnrolLost target (in_chunks_but w.array.chunks missing lost) lost w x fault → FailsWithout target missing lost v x fault
+    refuses_lost room x (LogFull k) h = absurd (no_full room h.2)
+    refuses_lost room x NoMemory h =
         let told = lists_as target lost v w lists in
-        inr (
-          h.1,
-          record {
-            member = m;
-            at = at;
-            missing_are = missing_are;
-            noted = told.0;
-            stored = w;
-            lists = told.1;
-            may = may_then;
-            why = (h.0, subst (λ (f : ℕ → Bool). HasFullLog target f (in_runs lost) w.array) same_sets h.2);
-          },
-        )
-    refuses_lost x NoMemory h =
-        let told = lists_as target lost v w lists in
-        inr (record { member = m; at = at; missing_are = missing_are; noted = told.0; stored = w; lists = told.1; may = may_then; why = h })
-    refuses_lost x TargetFault h =
+        inr (inr (record { member = m; at = at; missing_are = missing_are; noted = told.0; stored = w; lists = told.1; may = may_then; why = h }))
+    refuses_lost room x TargetFault h =
         let told = lists_as target lost v w lists in
         record {
           member = m;
@@ -206,24 +227,24 @@ module _ (target : ℕ) (missing : Bitmap) (lost : List Run) (v w : MirrorView) 
           may = may_then;
           why = subst (λ (f : ℕ → Bool). FailsToEnrol target f (in_runs lost) w x) same_sets h;
         }
-    refuses_lost x Halted h = absurd h
-    refuses_lost x NotSpare h = absurd h
-    refuses_lost x Dirty h = absurd h
-    refuses_lost x (InFlight n) h = absurd h
-    refuses_lost x (MetadataFault k) h = absurd h
-    refuses_lost x EventsFull h = absurd h
+    refuses_lost room x Halted h = absurd h
+    refuses_lost room x NotSpare h = absurd h
+    refuses_lost room x Dirty h = absurd h
+    refuses_lost room x (InFlight n) h = absurd h
+    refuses_lost room x (MetadataFault k) h = absurd h
+    refuses_lost room x EventsFull h = absurd h
 
-    pub comes_without : (x : MirrorView) {T : Type 0} (r : Result T RebuildFault)
+    pub comes_without : HasOwnRoom target missing v.array lost → (x : MirrorView) {T : Type 0} (r : Result T RebuildFault)
         → MatchResult r (λ _. Enrols target (in_chunks_but w.array.chunks missing lost) (in_runs lost) w x) (RefusesToEnrolLost target (in_chunks_but w.array.chunks missing lost) lost w x)
         → MatchResult r (λ _. EnrolsWithout target missing lost v x) (FailsWithout target missing lost v x)
-    comes_without x (Ok y) h = enrols_lost x h
-    comes_without x (Err fault) h = refuses_lost x fault h
+    comes_without room x (Ok y) h = enrols_lost x h
+    comes_without room x (Err fault) h = refuses_lost room x fault h
 
-  pub listing_fails : (fault : RebuildFault) → EndsListingLost lost v w fault → FailsWithout target missing lost v w fault
-  listing_fails (LogFull k) h = inl h
-  listing_fails NoMemory h = inl h
-  listing_fails (MetadataFault k) h = h
-  listing_fails fault h = absurd h
+  pub listing_fails : HaveRoomFor target missing v.array lost → (fault : RebuildFault) → EndsListingLost lost v w fault → FailsWithout target missing lost v w fault
+  listing_fails room (LogFull k) h = absurd (noting_has_room target missing lost v w k room h)
+  listing_fails room NoMemory h = inr (inl h)
+  listing_fails room (MetadataFault k) h = h
+  listing_fails room fault h = absurd h
 
   -- ---- how far the target came may be recorded
   module _ (copied : Bitmap) (held : AreSectorsHeld v target copied) (apart : (c : ℕ) → c < copied.chunks → is_set copied.bytes c ≡ true → IsNotListed v.array.chunks lost c) where

@@ -1,5 +1,5 @@
 -- Lists that are made on trial: each is the only one of its sectors.
-use Rattle.std.proofs.Common.{◌≡◌, ◌∙◌, ◌↔◌, ℕ, ◌+◌, ◌<◌, ◌≤◌, Bool, true, false, leb, leb-true, le-leb, List, length, IfOk, Ok, Err, Result, sym, ap, subst, arith, inl, inr}
+use Rattle.std.proofs.Common.{◌≡◌, ◌∙◌, ◌↔◌, ℕ, ◌+◌, ◌<◌, ◌≤◌, Bool, true, false, leb, leb-true, le-leb, List, length, IfOk, MatchResult, Ok, Err, Result, sym, ap, subst, arith, inl, inr}
 use Rattle.std.proofs.lemmas.Bool.{both_ways, cases_eq}
 use Rattle.std.proofs.lemmas.Option.{same_Some, slice_get_within}
 use Rattle.md_assembly.specs.States.{is_in_sync}
@@ -13,8 +13,11 @@ use Rattle.md_kept_members.specs.SectorLists.{IsListMore, IsListOf, in_chunks_bu
 use Rattle.md_kept_members.specs.View.{MemberView}
 use Rattle.md_state.specs.Members.{IsMember}
 use Rattle.md_state.specs.View.{ArrayView}
-use Rattle.md_copy.specs.Salvaging.Fitting.{HasOwnRoom, HasRoomIfInSync, HaveRoomFor}
+use Rattle.md_state.specs.Steps.Enrol.{HasFullLog}
+use Rattle.md_copy.specs.Salvaging.Fitting.{FailsLook, FailsLookInSync, HasOwnRoom, HasRoomIfInSync, HaveRoomFor, LacksRoomForMore}
 use Rattle.md_copy.specs.Salvaging.Widened.{IsWidened}
+use Rattle.md_copy.specs.declared.beginning.fault.RebuildFault.{RebuildFault}
+use Rattle.md_copy.specs.declared.beginning.fault.RebuildFault.TheVariants.{LogFull, NoMemory}
 
 pub one_more : (more : ℕ → Bool) (m : MemberView) (a b : List Run) → IsListMore more m a → IsListMore more m b → a ≡ b
 one_more more m a b p q = same_runs 0 0 a b p.canonical q.canonical (λ s bad. (q.bad s).1 ((p.bad s).0 bad)) (λ s bad. (p.bad s).1 ((q.bad s).0 bad))
@@ -44,6 +47,15 @@ module _ (a : ArrayView) (listed : List Run) (k : ℕ) (m : MemberView) (at : Is
     λ has. le-leb (entries_needed list) (log_room m.superblock) (has m list (record { member = at; in_sync = in_sync }) made),
   )
 
+  pub full_more : is_in_sync m.state ≡ true → (list : List Run) → IsListMore (in_runs listed) m list → leb (entries_needed list) (log_room m.superblock) ≡ false → LacksRoomForMore k a listed
+  full_more in_sync list made short = record {
+    member = m;
+    in_sync = record { member = at; in_sync = in_sync };
+    list = list;
+    list_is = made;
+    full = λ fits. both_ways (leb (entries_needed list) (log_room m.superblock)) short (le-leb (entries_needed list) (log_room m.superblock) fits);
+  }
+
   pub room_own : (missing : Bitmap) (list : List Run) → IsListOf (in_chunks_but a.chunks missing listed) (in_runs listed) m list
       → leb (entries_needed list) (log_room m.superblock) ≡ true ↔ HasOwnRoom k missing a listed
   room_own missing list made = (
@@ -56,6 +68,16 @@ module _ (a : ArrayView) (listed : List Run) (k : ℕ) (m : MemberView) (at : Is
     λ has. le-leb (entries_needed list) (log_room m.superblock) (has m list at made),
   )
 
+  pub room_full : (missing : Bitmap) (list : List Run) → IsListOf (in_chunks_but a.chunks missing listed) (in_runs listed) m list
+      → leb (entries_needed list) (log_room m.superblock) ≡ false → HasFullLog k (in_chunks_but a.chunks missing listed) (in_runs listed) a
+  room_full missing list made short = record {
+    member = m;
+    at = at;
+    list = list;
+    list_is = made;
+    full = λ fits. both_ways (leb (entries_needed list) (log_room m.superblock)) short (le-leb (entries_needed list) (log_room m.superblock) fits);
+  }
+
 -- ---- all logs
 abbrev pub HaveRoomBelow : ℕ → ArrayView → List Run → Type 0
 HaveRoomBelow n a listed = (k : ℕ) → k < n → HasRoomIfInSync a listed k
@@ -65,6 +87,14 @@ rooms_more n a listed before this k low = elim (cases_eq k n) [ inl here ↦ sub
 
 pub rooms_all : (n : ℕ) (a : ArrayView) (listed : List Run) → length a.members ≤ n → HaveRoomBelow n a listed → (k : ℕ) → HasRoomIfInSync a listed k
 rooms_all n a listed all before k m list is more = let low = slice_get_within a.members k m is.member in before k (omega (arith, low, all)) m list is more
+
+-- the target's log has room, and those of the members in sync are looked at
+pub looked : (target : ℕ) (missing : Bitmap) (listed : List Run) (a : ArrayView) → HasOwnRoom target missing a listed → {T : Type 0} (r : Result T RebuildFault)
+    → MatchResult r (λ _. (k : ℕ) → HasRoomIfInSync a listed k) (FailsLookInSync listed a) → MatchResult r (λ _. HaveRoomFor target missing a listed) (FailsLook target missing listed a)
+looked target missing listed a own (Ok x) rooms = record { own = own; in_sync = rooms }
+looked target missing listed a own (Err (LogFull k)) h = inr h
+looked target missing listed a own (Err NoMemory) h = tt
+looked target missing listed a own (Err fault) h = absurd h
 
 -- ---- the gap
 abbrev pub AreTooSmall : ℕ → ℕ → Bitmap → List Run → ArrayView → Type 0

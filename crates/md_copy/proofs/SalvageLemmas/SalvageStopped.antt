@@ -47,10 +47,10 @@ listed_many lost v noted w (inl same) = ap (λ (x : MirrorView). length x.array.
 listed_many lost v noted w (inr (notes, stores)) = stores.goes.array.as_many ∙ notes.goes.array.as_many
 
 without_many : (target : ℕ) (missing : Bitmap) (lost : List Run) (v w : MirrorView) → IsConsistent w → (fault : RebuildFault) → FailsWithout target missing lost v w fault → AsMany v w
-without_many target missing lost v w sound (LogFull k) (inl e) = e.notes.goes.array.as_many
-without_many target missing lost v w sound (LogFull k) (inr (is, e)) = ap (λ (x : MirrorView). length x.array.members) e.why.0 ∙ listed_many lost v e.noted e.stored e.lists
-without_many target missing lost v w sound NoMemory (inl e) = e.notes.goes.array.as_many
-without_many target missing lost v w sound NoMemory (inr e) = ap (λ (x : MirrorView). length x.array.members) e.why ∙ listed_many lost v e.noted e.stored e.lists
+without_many target missing lost v w sound (LogFull k) h = ap (λ (x : MirrorView). length x.array.members) h.0
+without_many target missing lost v w sound NoMemory (inl same) = ap (λ (x : MirrorView). length x.array.members) same
+without_many target missing lost v w sound NoMemory (inr (inl e)) = e.notes.goes.array.as_many
+without_many target missing lost v w sound NoMemory (inr (inr e)) = ap (λ (x : MirrorView). length x.array.members) e.why ∙ listed_many lost v e.noted e.stored e.lists
 without_many target missing lost v w sound (MetadataFault k) (noted, notes, stops) =
     let before = notes.goes.sound.fits.as_many in
     let then = sound.fits.as_many in

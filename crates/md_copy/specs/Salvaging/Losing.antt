@@ -14,6 +14,7 @@ use Rattle.md_state.specs.Steps.Enrol.{HasFullLog}
 use Rattle.md_state.specs.Steps.NoteBad.{HasFullLogForMore}
 use Rattle.md_state.specs.View.{MirrorView}
 use Rattle.md_array.specs.Steps.Enrol.{Enrols, FailsToEnrol, MayEnrolSectors}
+use Rattle.md_copy.specs.Salvaging.Fitting.{LacksRoomAt}
 use Rattle.md_copy.specs.Listing.{ChangesListAlone, EndsStoringLists, HaveRoom, IsNoting, StoresLists}
 use Rattle.md_copy.specs.declared.beginning.fault.RebuildFault.{RebuildFault}
 use Rattle.md_copy.specs.declared.beginning.fault.RebuildFault.TheVariants.{LogFull, MetadataFault, NoMemory, TargetFault}
@@ -98,12 +99,11 @@ pub record EndsWithout (target : ℕ) (missing : Bitmap) (lost : List Run) (old 
   pub may : MayEnrolSectors target (in_chunks_but old.array.chunks missing lost) (in_runs lost) stored
   pub why : Why (in_chunks_but old.array.chunks missing lost) stored
 
--- A log has no room, or memory is refused, while the sectors are listed; a list can't be stored; or the target does not come into sync.
+-- The target's log or that of a member in sync has no room, and nothing was listed or stored on any; memory is refused, for a look at the logs, which
+-- changes nothing, or later; a list can't be stored; or the target does not come into sync.
 abbrev pub FailsWithout : ℕ → Bitmap → List Run → MirrorView → MirrorView → RebuildFault → Type 0
-FailsWithout target missing lost old new (LogFull k) =
-    EndsNotingLost lost old new (LogFull k)
-    ⊎ ((k ≡ target) × EndsWithout target missing lost old (λ copied stored. (new ≡ stored) × HasFullLog target copied (in_runs lost) stored.array))
-FailsWithout target missing lost old new NoMemory = EndsNotingLost lost old new NoMemory ⊎ EndsWithout target missing lost old (λ copied stored. new ≡ stored)
+FailsWithout target missing lost old new (LogFull k) = (new ≡ old) × LacksRoomAt target missing lost old.array k
+FailsWithout target missing lost old new NoMemory = (new ≡ old) ⊎ (EndsNotingLost lost old new NoMemory ⊎ EndsWithout target missing lost old (λ copied stored. new ≡ stored))
 FailsWithout target missing lost old new (MetadataFault k) = (noted : MirrorView) × NotesLost lost old noted × EndsStoringLists every_role noted new (MetadataFault k)
 FailsWithout target missing lost old new TargetFault = EndsWithout target missing lost old (λ copied stored. FailsToEnrol target copied (in_runs lost) stored new)
 FailsWithout target missing lost old new fault = ⊥

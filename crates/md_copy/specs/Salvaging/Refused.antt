@@ -1,5 +1,5 @@
 -- What stands after a salvage that is refused, fault by fault, in plain terms, whatever the steps were (this project's own).
-use Rattle.std.specs.Prelude.{◌≡◌, ◌≢◌, ◌⊎◌, ℕ, ◌+◌, ◌≤◌, ◌<◌, true, false, List, slice_get, Some}
+use Rattle.std.specs.Prelude.{◌≡◌, ◌≢◌, ◌⊎◌, ◌↔◌, ℕ, ◌+◌, ◌≤◌, true, false, List, slice_get, Some}
 use Rattle.md_assembly.specs.States.{is_recovering, is_spare}
 use Rattle.md_badblocks.specs.declared.run.Run.{Run}
 use Rattle.md_badblocks.specs.Runs.{IsBad}
@@ -43,11 +43,18 @@ pub record LacksLog (target k : ℕ) (m : MemberView) (old new : MirrorView) : T
   pub none : log_room m.superblock ≡ 0
   pub unchanged : new ≡ old
 
--- The log of member k, the target or one in sync, has no room for its list with what is to be listed, though runs are united as far as that saves entries.
--- (Nothing need be lost: a log that was read with a shift may have no room for what the target lists already.)
+-- The lists of all other members are as they were.
+abbrev pub ListsStay : ℕ → ArrayView → ArrayView → Type 0
+ListsStay target old new =
+    (k : ℕ) (m n : MemberView) → k ≢ target → IsMember old k m → IsMember new k n → (sector : ℕ) → IsBad n.bad sector ↔ IsBad m.bad sector
+
+-- The log of member k, the target or one in sync, has no room for its list with what is to be listed, though all gaps of up to 510 sectors are closed. That
+-- is found before anything is listed: the lists of all members are as they were. (Nothing need be lost: a log that was read with a shift may have no room
+-- for what the target lists already. And a list with fewer of the gaps might fit: to unite two long runs can cost an entry.)
 pub record LacksRoomForLost (target k : ℕ) (listed : List Run) (gap : ℕ) (old new : MirrorView) : Type 0 where
   pub running : new.array.halted ≡ false
   pub united : gap ≡ 510
+  pub lists : ListsStay target old.array new.array
   pub full : ((k ≡ target) × ((missing : Bitmap) × HasFullLog k (in_chunks_but old.array.chunks missing listed) (in_runs listed) new.array)) ⊎ HasFullLogForMore k (in_runs listed) new.array
 
 abbrev pub EndsSalvageSo : (target : ℕ) → RebuildFault → MemberView → (listed : List Run) → (gap : ℕ) → MirrorView → MirrorView → Type 0

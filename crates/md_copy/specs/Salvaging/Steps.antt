@@ -1,6 +1,6 @@
 -- A salvage step by step (this project's own): what is due is stored, a spare is admitted, one pass is made, chunks that are left are taken sector by
 -- sector, lost sectors are listed, the target comes into sync, and the others are told.
-use Rattle.std.specs.Prelude.{◌≡◌, ◌⊎◌, ℕ, ◌≤◌, ◌<◌, ◌&&◌, false, List, []}
+use Rattle.std.specs.Prelude.{◌≡◌, ◌⊎◌, ℕ, ◌<◌, ◌&&◌, List}
 use Rattle.md_badblocks.specs.declared.run.Run.{Run}
 use Rattle.md_bitmap.specs.Marks.{Bitmap, is_set}
 use Rattle.md_kept_members.specs.Enrolling.{log_room}

@@ -1,7 +1,9 @@
 // Which sectors are listed so that each log has room for them.
-ghost use Rattle.std.specs.Prelude.{◌≡◌, ◌↔◌, ◌<◌, ℕ, IfOk, length, true};
+ghost use Rattle.std.specs.Prelude.{◌≡◌, ◌↔◌, ◌<◌, ℕ, IfOk, false, length, true};
 ghost use Rattle.md_array.specs.Consistency.{IsConsistent};
-ghost use Rattle.md_copy.specs.Salvaging.Fitting.{HasOwnRoom, HasRoomIfInSync, HaveRoomFor, IsFitting};
+ghost use Rattle.md_copy.specs.Salvaging.Fitting.{HasOwnRoom, HasRoomIfInSync, HaveRoomFor, IsFitting, LacksRoomForMore};
+ghost use Rattle.md_kept_members.specs.SectorLists.{in_chunks_but, in_runs};
+ghost use Rattle.md_state.specs.Steps.Enrol.{HasFullLog};
 
 use crate::salvaging::trial_lists::{list_but_for, list_more};
 use crate::salvaging::widening::widen_lost;
@@ -12,13 +14,15 @@ use md_device::Device;
 use md_kept_members::log_room;
 use std::alloc::{AllocError, Global};
 
-// An entry of a log names 512 sectors. So it saves none to unite two runs with more than these between them.
+// An entry of a log names 512 sectors. So it saves none to unite two runs with more than these between them. With fewer
+// it may save one, or cost one where the runs are long.
 const WIDEST_GAP: u64 = 510;
 
 /// The sectors to list where these are lost, of chunks that the target lacks: the lost ones, and where a log has no room
-/// for so many runs, those between neighbouring ones too, the closest first, as far as it takes. The logs that are to
-/// have room are that of the target, which comes into sync with all else of these chunks, and those of all members in
-/// sync. Nothing is changed.
+/// for so many runs, those between neighbouring ones too. All gaps of a width are closed at once, the narrowest first,
+/// until each log has room: that of the target, which comes into sync with all else of these chunks, and those of all
+/// members in sync. Where no width up to the widest is enough, the answer is of the widest all the same. Nothing is
+/// changed.
 pub fn sectors_to_list<D: Device + Drop>(
     alloc: Global,
     mirror: &Mirror<D>,
@@ -61,8 +65,8 @@ fn have_room<D: Device + Drop>(
     all_have_room(alloc, mirror, listed)
 }
 
-// Whether the target's log has room.
-fn has_own_room<D: Device + Drop>(
+/// Whether the target's log has room.
+pub(crate) fn has_own_room<D: Device + Drop>(
     alloc: Global,
     mirror: &Mirror<D>,
     target: usize,
@@ -72,7 +76,8 @@ fn has_own_room<D: Device + Drop>(
     requires within { target < length mirror.now.array.members }
     requires missing { missing.now.chunks ≡ mirror.now.array.marks.chunks }
     requires sound { IsConsistent mirror.now }
-    ensures { IfOk result (λ fits. (fits ≡ true) ↔ HasOwnRoom target missing.now mirror.now.array listed.now) }
+    ensures room { IfOk result (λ fits. (fits ≡ true) ↔ HasOwnRoom target missing.now mirror.now.array listed.now) }
+    ensures full { IfOk result (λ fits. fits ≡ false → HasFullLog target (in_chunks_but mirror.now.array.chunks missing.now listed.now) (in_runs listed.now) mirror.now.array) }
 {
     let own = mirror.own(target);
     let list = list_but_for(
@@ -103,15 +108,16 @@ fn all_have_room<D: Device + Drop>(
     Ok(true)
 }
 
-// Whether the log of member k has room, if it is in sync.
-fn has_room<D: Device + Drop>(
+/// Whether the log of member k has room, if it is in sync.
+pub(crate) fn has_room<D: Device + Drop>(
     alloc: Global,
     mirror: &Mirror<D>,
     k: usize,
     listed: &BadSet,
 ) -> Result<bool, AllocError>
     requires { k < length mirror.now.array.members }
-    ensures { IfOk result (λ fits. (fits ≡ true) ↔ HasRoomIfInSync mirror.now.array listed.now k) }
+    ensures room { IfOk result (λ fits. (fits ≡ true) ↔ HasRoomIfInSync mirror.now.array listed.now k) }
+    ensures full { IfOk result (λ fits. fits ≡ false → LacksRoomForMore k mirror.now.array listed.now) }
 {
     if !mirror.state(k).is_in_sync() {
         return Ok(true);

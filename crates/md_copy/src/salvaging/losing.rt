@@ -24,6 +24,7 @@ ghost use Rattle.md_state.specs.Steps.Rise.{HasSpentEvents};
 ghost use Rattle.md_state.specs.Steps.WriteMember.{IsNotDue};
 
 use crate::beginning::RebuildFault;
+use crate::salvaging::looking::look_for_room;
 use md_array::{EnrolFault, Mirror, NoteFault};
 use md_badblocks::BadSet;
 use md_bitmap::Marks;
@@ -32,8 +33,8 @@ use md_metadata::store_list;
 use std::alloc::Global;
 
 /// Lists these sectors of the array on all members in sync, stores their lists, and the target comes into sync without
-/// them. It has the others of the chunks that are missing. `copied` is for the case that it does not come into sync: chunks
-/// of which no sector is lost.
+/// them. It has the others of the chunks that are missing. All logs are looked at first: nothing is listed where one has
+/// no room. `copied` is for the case that it does not come into sync: chunks of which no sector is lost.
 pub(crate) fn enrol_without<D: Device + Drop>(
     alloc: Global,
     mirror: &mut Mirror<D>,
@@ -53,6 +54,7 @@ pub(crate) fn enrol_without<D: Device + Drop>(
     ensures leaves { IfErr result (MayLeaveSalvaged target copied.now mirror.new) }
     ensures sound { IsConsistent mirror.new }
 {
+    look_for_room(alloc, mirror, target, missing, lost)?;
     list_lost(alloc, mirror, lost)?;
     enrol_target(alloc, mirror, target, missing, lost)
 }

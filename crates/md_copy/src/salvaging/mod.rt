@@ -3,7 +3,7 @@
 //! Start with `salvage`, the whole call (`whole_salvage.rt`). One pass copies what can be read chunk by chunk, as in a
 //! rebuild. `left_chunks.rt` takes each chunk that is left sector by sector from the members in sync, by `read` of
 //! `md_read`. What none of them gives is lost: `losing.rt` lists it on all of them, and the target lists it as it comes
-//! into sync. What holds of a salvage that is done is `HasSalvaged` in `specs/Salvaging/Salvaged.antt`.
+//! into sync; `looking.rt` has found before that each log has room. What holds of a salvage that is done is `HasSalvaged` in `specs/Salvaging/Salvaged.antt`.
 //!
 //! ```
 //! let salvaged = salvage(rt, alloc, &mut mirror, 1, &gate)?;
@@ -13,6 +13,7 @@ mod fitting;
 mod last_record;
 mod laws;
 mod left_chunks;
+mod looking;
 mod losing;
 mod moving;
 mod put_run;

@@ -40,8 +40,13 @@ use std::thread::Threads;
 /// Copies to the target, a spare or recovering, each sector of the chunks that it lacks that a member in sync gives. Chunks
 /// that can be read whole come first, in the fewest rounds, as in a rebuild. A chunk that could not, or of which each member
 /// lists a sector, is taken sector by sector from any member in sync that gives it, in long runs first. Sectors that none
-/// gives are lost: they are listed on all members in sync, and on the target, which comes into sync then. A target
-/// without a log can list none, and is refused at once.
+/// gives are lost: they are listed on all members in sync, and on the target, which comes into sync then.
+///
+/// Where the log of one of them has no room for so many runs, good sectors that lie between two lost ones are listed
+/// too, on all of them, and count as lost from then on: all gaps of a width at once, the narrowest first, of up to 510
+/// sectors. Where that is not enough, `LogFull` names a member whose log has no room. It is found before anything is
+/// listed, so that all lists are as before, in memory and on the devices. The target is recovering then, and has what
+/// was copied. A target without a log can list none, and is refused at once.
 pub fn salvage<D: Device + Drop + Send, G: Gate + Sync, R: Threads + Wait + Sync>(
     rt: &R,
     alloc: Global,
