@@ -47,3 +47,14 @@ ssize_t pread(int fd, void *bytes, size_t size, off_t place)
 {
     return pread64(fd, bytes, size, place);
 }
+
+/* ddrescue seeks and then reads. */
+ssize_t read(int fd, void *bytes, size_t size)
+{
+    off_t place = lseek(fd, 0, SEEK_CUR);
+    if (place >= 0 && is_bad(fd, size, place)) {
+        errno = EIO;
+        return -1;
+    }
+    return syscall(SYS_read, fd, bytes, size);
+}

@@ -23,7 +23,7 @@ _mdcli_options() {
     fail | remove) printf '%s\n' --member= ;;
     add) printf '%s\n' --device= --json --run ;;
     re-add) printf '%s\n' --device= --full --json --run ;;
-    rebuild) printf '%s\n' --member= --quiet --json --run --map= ;;
+    rebuild) printf '%s\n' --member= --salvage --quiet --json --run --map= ;;
   esac
 }
 

@@ -60,6 +60,7 @@ complete -c mdcli -n '__fish_seen_subcommand_from check' -l list -d "Shows where
 complete -c mdcli -n '__fish_seen_subcommand_from check' -l exit-code -d "Ends with status 3 where members differ"
 complete -c mdcli -n '__fish_seen_subcommand_from add re-add' -l device -r -F -d "The image that joins the array: a file or a block device, none of those listed"
 complete -c mdcli -n '__fish_seen_subcommand_from re-add' -l full -d "Rebuilds all of it, whatever its bitmap says"
+complete -c mdcli -n '__fish_seen_subcommand_from rebuild' -l salvage -d "Lists the bad sectors alone that no member gives, and not their chunks"
 complete -c mdcli -n '__fish_seen_subcommand_from rebuild' -l quiet -d "Shows the last line of the report alone, without the plan"
 complete -c mdcli -n '__fish_seen_subcommand_from examine examine-bitmap examine-badblocks scan create grow assemble detail plan read serve write check resync stop fail remove add re-add rebuild' -s v -l verbose -d "Says more of a refusal: the image that it is about, and what to do"
 

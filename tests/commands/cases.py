@@ -400,12 +400,16 @@ PARTED = "mdcli: %s: was used without %s since they parted: what was written to 
 # What a rebuild newly lists: one chunk.
 UNREAD = "mdcli: %s: could not be read in places: the sectors that are listed as bad in it are now 8\n"
 UNGIVEN = "mdcli: %s: no member gave all of it: the sectors that are listed as bad in it are now 8\n"
+# What no member gives then, and what is said of a rebuild that lists chunks.
+UNGIVEN_SECTORS = "mdcli: sectors of the array that no member in sync gives: %d, the first is %d\n"
+CHUNKS_LISTED = "mdcli: of a chunk with bad sectors all are listed; `rebuild --salvage` lists the bad sectors alone\n"
 # With --verbose: what to do with an image that can't be read in a place, and with one that can't be read in more places than it can
 # list.
 COPY = "%s: copy the disk by ddrescue, and use the copy with its map (`--map`), without which zeros would count as data; or leave the image out\n"
 LEAVE_OUT = (
-    "%s: it can't be read in more places than its bad block log has room for: leave the image out, if another member is in sync; or copy the"
-    " disk by ddrescue, which may get more of it, and use the copy with its map (`--map`), without which zeros would count as data\n"
+    "%s: it can't be read in more places than its bad block log has room for: `rebuild --salvage` lists bad sectors alone; or leave the image"
+    " out, if another member is in sync; or copy the disk by ddrescue, which may get more of it, and use the copy with its map (`--map`),"
+    " without which zeros would count as data; or put out the array by `read --readonly --fill`, and make a new one of it by `create`\n"
 )
 
 PLAN = (
@@ -441,6 +445,9 @@ REBUILT_BUT_ONE = (
     + "rounds 0, chunks 0, orphans 1\n   chunk source    round\ncertificate: none\norphans: 1\n"
     + "rebuilt member 1, passes 2, orphans 1\n"
 )
+# Where its sector 9 alone is lost.
+SALVAGED_BUT_ONE = REBUILT_BUT_ONE[: REBUILT_BUT_ONE.index("rounds 0")] + "rebuilt member 1, passes 1, lost sectors 1, first 9, listed besides 0\n"
+ONE_UNREAD = (UNREAD % "a" + UNGIVEN % "b").replace("now 8", "now 1")
 
 TWO = {"a": ZEROS, "b": ZEROS}
 TWO_LONG = {"a": bytes((2048 + LONG) * SECTOR), "b": bytes((2048 + LONG) * SECTOR)}
@@ -588,8 +595,8 @@ MADE_OBJECT = '{"report":"create","in_sync":2,"raid_devices":3,"events":1,"marke
 ADDED_OBJECT = '{"report":"add","in_sync":2,"raid_devices":3,"events":2,"marked_chunks":0,"members":[%s]}\n' % (OBJECTS_AROUND + OBJECT_OF_SPARE)
 RE_ADDED_OBJECT = '{"report":"re-add","in_sync":2,"raid_devices":2,"events":4,"marked_chunks":0,"members":[%s]}\n' % OBJECTS_OF_TWO
 SHORT_OBJECT = '{"report":"assemble","in_sync":2,"raid_devices":2,"events":1,"marked_chunks":0,"members":[%s]}\n' % OBJECTS_OF_TWO
-EQUAL = '{"report":"check","mismatched_chunks":0,"mismatches":[],"members":[%s],"compared_members":[0,1]}\n' % OBJECTS_OF_TWO
-CHECKED = '{"report":"check","mismatched_chunks":1,"mismatches":[{"sector":8,"sectors":8,"pairs":[[0,1]]}],"members":[%s],"compared_members":[0,1]}\n' % OBJECTS_OF_TWO
+EQUAL = '{"report":"check","mismatched_chunks":0,"mismatches":[],"members":[%s],"compared_members":[0,1],"bad_sectors":[[],[]]}\n' % OBJECTS_OF_TWO
+CHECKED = '{"report":"check","mismatched_chunks":1,"mismatches":[{"sector":8,"sectors":8,"pairs":[[0,1]]}],"members":[%s],"compared_members":[0,1],"bad_sectors":[[],[]]}\n' % OBJECTS_OF_TWO
 
 # Why an array is not opened, where the report was to be an object.
 REFUSED_OBJECT = (
@@ -598,7 +605,7 @@ REFUSED_OBJECT = (
 )
 
 # The same with the second image first: a member's index is its place among the images.
-CHECKED_TURNED = CHECKED[: CHECKED.index('"members":')] + '"members":[%s],"compared_members":[0,1]}\n' % ",".join(
+CHECKED_TURNED = CHECKED[: CHECKED.index('"members":')] + '"members":[%s],"compared_members":[0,1],"bad_sectors":[[],[]]}\n' % ",".join(
     '{"image":"%s","index":%d,"device_number":%d,"role":%d,"state":"in sync","write_mostly":false}' % (name, index, role, role)
     for index, (name, role) in enumerate((("b", 1), ("a", 0)))
 )
@@ -999,7 +1006,7 @@ CASES = [
             # They give the chunks in turn: the first chunks 0, 2, 4 and 6, the second the others.
             Step("plan --member 2 --map a=third --map b=far a b c", PLAN),
             # What the one does not give the other one does, in a second pass.
-            Step("rebuild --member 2 --map a=third --map b=far a b c", REBUILT_FROM_COPIES, told=UNREAD % "a" + UNREAD % "b", changes="a b c"),
+            Step("rebuild --member 2 --map a=third --map b=far a b c", REBUILT_FROM_COPIES, told=UNREAD % "a" + UNREAD % "b" + CHUNKS_LISTED, changes="a b c"),
             Step("examine-badblocks a", "        2064 for 8 sectors\n"),
             Step("check a b c", AGREE),
         ],
@@ -1400,7 +1407,7 @@ CASES = [
             Step("write --sector 0 a", "in sync 1 of 2, events 3, marked 8\n", changes="a", given=members.pattern(1, 64)),
             Made("a", "a", listing),
             Step("add --device b a", "in sync 1 of 2, events 4, marked 8\n", changes="a b"),
-            Step("rebuild --member 1 a b", REBUILT_FROM_ONE, told=UNGIVEN % "b", changes="a b"),
+            Step("rebuild --member 1 a b", REBUILT_FROM_ONE, told=UNGIVEN % "b" + UNGIVEN_SECTORS % (1, 43) + CHUNKS_LISTED, changes="a b"),
             Step("examine-badblocks b", "        2088 for 8 sectors\n"),
             Step("examine-badblocks a", "        2091 for 1 sectors\n"),
             Step("read --sector 43 --count 1 a b", fault="Unreadable 43"),
@@ -1439,9 +1446,53 @@ CASES = [
         {"a": VAULT, "b": ZEROS, "late": lacks((9, 1))},
         [
             NEW_BESIDE_VAULT,
-            Step("rebuild --verbose --map a=late --member 1 a b", REBUILT_BUT_ONE, told=UNREAD % "a" + UNGIVEN % "b", changes="a b"),
+            Step(
+                "rebuild --verbose --map a=late --member 1 a b",
+                REBUILT_BUT_ONE,
+                told=UNREAD % "a" + UNGIVEN % "b" + UNGIVEN_SECTORS % (8, 8) + CHUNKS_LISTED,
+                changes="a b",
+            ),
             Step("examine-badblocks --verbose a", "        2056 for 8 sectors\n"),
             Step("examine-badblocks --verbose b", "        2056 for 8 sectors\n"),
+        ],
+    ),
+    (
+        "a sector that can't be read is listed alone on its source, and on the new member, where it is to be salvaged",
+        {"a": VAULT, "b": ZEROS, "late": lacks((9, 1))},
+        [
+            NEW_BESIDE_VAULT,
+            Step("rebuild --salvage --map a=late --member 1 a b", SALVAGED_BUT_ONE, told=ONE_UNREAD + UNGIVEN_SECTORS % (1, 9), changes="a b"),
+            Step("examine-badblocks --verbose a", "        2057 for 1 sectors\n"),
+            Step("examine-badblocks --verbose b", "        2057 for 1 sectors\n"),
+            Step("rebuild --salvage --map a=late --member 1 a b", fault="NotSpare"),
+        ],
+    ),
+    (
+        "sectors that can't be read are told of in an object",
+        {"a": VAULT, "b": ZEROS, "late": lacks((9, 1))},
+        [
+            NEW_BESIDE_VAULT,
+            Step(
+                "rebuild --salvage --json --map a=late --member 1 a b",
+                '{"report":"rebuild","member":1,"passes":1,"lost_sectors":1,"listed_besides":0,"lost":[{"sector":9,"sectors":1}]}\n',
+                told=ONE_UNREAD + UNGIVEN_SECTORS % (1, 9),
+                changes="a b",
+            ),
+        ],
+    ),
+    (
+        "a member without a log is not salvaged, and nothing is changed",
+        {"a": VAULT, "b": ZEROS},
+        [
+            NEW_BESIDE_VAULT,
+            Made("b", "b", without_log),
+            Step("rebuild --salvage --member 1 a b", fault="LogFull 1"),
+            Step(
+                "rebuild --salvage --json --member 1 a b",
+                ('{"fault":"LogFull 1","text":"mdcli: LogFull 1","advice":"', '"}\n'),
+                fault="LogFull 1",
+            ),
+            Step("rebuild --salvage --member 2 a b", fault="BadMember"),
         ],
     ),
     (

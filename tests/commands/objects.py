@@ -311,7 +311,9 @@ class SaysTheSame:
             wanted["compared_members"] = [member["index"] for member in found if member["state"] == "in sync"]
         if command == "detail":
             wanted.update(roles_and_apart(found, wanted["raid_devices"], told.splitlines()))
+        if command in ("check", "detail"):
             wanted["bad_sectors"] = [runs(run(["examine-badblocks", image])[1].splitlines()) for image in images]
+        if command == "detail":
             wanted["recovering"] = recovering(run(["detail", "--verbose", "--readonly"] + images)[1].splitlines())
         return wanted
 

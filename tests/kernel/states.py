@@ -12,6 +12,9 @@ WRITE_AT = 6
 WRITTEN = pattern(9, 12)
 WRITE = ["write", "--sector", WRITE_AT]
 GROW = ["grow", "--bitmap", "internal"]
+SALVAGE = ["rebuild", "--salvage", "--member", 2]
+# The sectors that no member has of an array that is salvaged: half of a chunk of 8 KiB, and what a kernel reads at once.
+LOST = range(24, 32)
 JUNK = b"\x5a"
 ENDINGS = ("before", "half")
 ONE, OTHER, THIRD = pattern(1, SECTORS), pattern(2, SECTORS), pattern(3, SECTORS)
@@ -334,6 +337,27 @@ class States:
         for at, contents in self.each_call(self.arrays.added_third, ["rebuild", "--member", 2], hows=["before"], **settings):
             first = known.FIRST_MOMENT if is_first_of_its_role(contents) else None
             yield State("a source can't be read at its end, %s" % at, contents, [ONE], known_as=first)
+
+    def scratched(self):
+        """A third member is to come into sync, and the others list the same sectors, and one more each that the other has."""
+        contents = self.lab.create([ONE, ONE, None], 8) + [blank(4)]
+        contents = self.lab.run(contents, ["add", "--device", Image(2)], [0, 1])
+        for number, at in ((0, 17), (1, 40)):
+            contents[number] = members.with_bad_blocks(contents[number], [(2048 + LOST.start, len(LOST)), (2048 + at, 1)])
+        return contents
+
+    def after_salvage(self):
+        yield State("what both list", self.lab.run(self.scratched(), SALVAGE), [ONE], missing=LOST)
+        yield State("what both list, and the new member alone", self.lab.run(self.scratched(), SALVAGE), [ONE], given=[2], missing=LOST)
+        written = self.lab.run(self.lab.run(self.scratched(), SALVAGE), WRITE, None, WRITTEN)
+        yield State("what both list, then write", written, [NEW], missing=LOST)
+        failing = self.failing(SECTORS - 1, SECTORS)
+        yield State("a source that could not be read", self.lab.run(self.arrays.added_third(), SALVAGE, **failing), [ONE])
+
+    def killed_salvage(self):
+        for at, contents in self.each_call(self.scratched, SALVAGE, hows=["before"]):
+            first = known.FIRST_MOMENT if is_first_of_its_role(contents) else None
+            yield State("what both list, %s" % at, contents, [ONE], missing=LOST, known_as=first)
 
     def recovering(self):
         """A rebuild that was killed in its second pass: its offset stands on the member."""

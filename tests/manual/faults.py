@@ -69,8 +69,12 @@ def constants():
     return dict(found for file in (ADVICE, LIMITS, OUTPUT_FILES) for found in TEXT.findall(file.read_text()))
 
 
-# Of these faults it depends on the image, the command or what failed which text is said: this one comes second.
-SECOND = {"LogFull #": "LEAVE_SOURCE_OUT", "NoMemory": "WRITE_A_FILE", "OutputFileFault": "READ_ON"}
+# Of these faults it depends on the image, the command or what failed which text is said: these come after the first.
+FURTHER = {
+    "LogFull #": ("LEAVE_SOURCE_OUT", "SALVAGE_WITH_NEW_LOG", "SALVAGE_WITHOUT_SOURCE"),
+    "NoMemory": ("WRITE_A_FILE",),
+    "OutputFileFault": ("READ_ON",),
+}
 
 # A fault of this name comes of an option, too.
 OTHER = {"BadChunk": ("OptionFault", "BadChunk")}

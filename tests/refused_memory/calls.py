@@ -114,6 +114,8 @@ ANSWERS = {
     "md_commands::rebuild_member_json": "rebuild --json",
     "md_commands::remove_member": "remove",
     "md_commands::resync_array": "resync",
+    "md_commands::salvage_member": "rebuild --salvage",
+    "md_commands::salvage_member_json": "rebuild --salvage --json",
     "md_commands::show_detail": "detail",
     "md_commands::show_detail_json": "detail --json",
     "md_commands::show_plan": "plan",

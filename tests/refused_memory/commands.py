@@ -125,10 +125,12 @@ def play(folder, step, before, settings):
 
 
 def command_of(step):
-    """A command, with the option by which it is another call: of an object, of a read that goes on, of a member that comes back whole, or
-    where no image may be changed."""
+    """A command, with the option by which it is another call: of an object, of a read that goes on, of a member that comes back whole, of one that
+    is salvaged, or where no image may be changed."""
     other = [word for word in ("--json", "--fill") if word in step.words]
     other += [word for word in step.words[1:2] if word in ("--readonly", "--list", "--full")]
+    if "--salvage" in step.words:
+        other = [" ".join(["--salvage"] + other)]
     return " ".join(step.words[:1] + other[:1])
 
 

@@ -9,6 +9,7 @@ use Rattle.std.proofs.Math.Nat.{le_refl}
 use Rattle.std.proofs.lemmas.Option.{slice_get_within}
 use Rattle.md_commands.proofs.DeviceCounts.{AsMany, checks_as_many, done_check, done_fail, done_list, done_resync, done_write, fails_as_many, lists_as_many, resyncs_as_many, stops_as_many, writes_as_many, stopped}
 use Rattle.md_commands.proofs.RebuildCounts.{done_rebuild, rebuilds_as_many}
+use Rattle.md_commands.proofs.SalvageCounts.{done_salvage, salvages_as_many}
 use Rattle.md_read_commands.proofs.ReadCounts.{done_read, done_readonly, fills_as_many, reads_as_many, reads_readonly_as_many}
 use Rattle.md_serve_commands.proofs.ServeCounts.{serves_as_many}
 use Rattle.md_commands.specs.declared.source.Source.{Ghosts as SourceGhosts}
@@ -18,13 +19,11 @@ use Rattle.md_examine.specs.declared.sink.Sink.{Ghosts as SinkGhosts}
 use Rattle.md_state.specs.View.{Disk, disk_of}
 use Rattle.md_images.specs.Taking.{Text}
 use Rattle.md_words.specs.declared.form.CheckForm.TheVariants as check_form
+use Rattle.md_words.specs.declared.loss.Loss.TheVariants as loss
 use Rattle.md_words.specs.Asks.{Ask, device_to_add, leaving_of, examines, examines_bitmap, examines_badblocks, scans, creates, grows, assembles, details, plans, reads, serves, serves_writable, checks, writes, resyncs, stops, fails, removes, adds, re_adds, rebuilds}
 use Rattle.md_commands.specs.declared.fault.CommandFault.{CommandFault}
-use Rattle.md_messages.specs.Question.{Question}
-use Rattle.md_messages.specs.declared.notices.Notices.{Notices}
-use Rattle.md_cli.specs.Asking.{PerformsOrDeclines}
 use Rattle.md_cli.specs.Opened.{OpenedView, count, moves_device, beside_place, with_beside}
-use Rattle.md_cli.specs.Performing.{Performs, PerformsRead, PutsRest, rebuilt_told, rest_from, sectors_asked}
+use Rattle.md_cli.specs.Performing.{Performs, PerformsRead, PutsRest, rebuilt_told, rest_from, salvaged_told, sectors_asked}
 use Rattle.md_cli.specs.Streams.{Streams}
 
 -- Where there was a device beside the array only if the command brought one: as many devices as before come back, the one beside
@@ -113,9 +112,12 @@ module _ {R S A : Type 0} (r : SourceGhosts R) (s : SinkGhosts S) (names : List 
   all_kept (fails k) (Ok v) brings h = kept _ before after brings h.0 (done_fail s k before.mirror after.mirror old.output new.output h.2)
   all_kept (fails k) (Err f) brings h =
       kept _ before after brings h.0 (fails_as_many s k before.mirror after.mirror old.output new.output f h.2)
-  all_kept (rebuilds k form) (Ok v) brings h = kept _ before after brings h.0 (done_rebuild s k before.mirror after.mirror old.output new.output (rebuilt_told form k) h.2)
-  all_kept (rebuilds k form) (Err f) brings h =
+  all_kept (rebuilds k loss.Chunks form) (Ok v) brings h = kept _ before after brings h.0 (done_rebuild s k before.mirror after.mirror old.output new.output (rebuilt_told form k) h.2)
+  all_kept (rebuilds k loss.Chunks form) (Err f) brings h =
       kept _ before after brings h.0 (rebuilds_as_many s k before.mirror after.mirror old.output new.output f h.2)
+  all_kept (rebuilds k loss.Sectors form) (Ok v) brings h = kept _ before after brings h.0 (done_salvage s k before.mirror after.mirror old.output new.output (salvaged_told form k) h.2)
+  all_kept (rebuilds k loss.Sectors form) (Err f) brings h =
+      kept _ before after brings h.0 (salvages_as_many s k before.mirror after.mirror old.output new.output f h.2)
   all_kept (removes k) result brings h = record {
     as_many = left_place k before.mirror.disks after.mirror.disks after.beside h.1.handed_back
         ∙ omega (arith, ap (λ o. count o) (none_there before.beside brings));
@@ -163,7 +165,8 @@ module _ {R S A : Type 0} (r : SourceGhosts R) (s : SinkGhosts S) (names : List 
   performs_asked (removes k) h = h
   performs_asked (adds name json) h = h
   performs_asked (re_adds name full json) h = h
-  performs_asked (rebuilds k form) h = h
+  performs_asked (rebuilds k loss.Chunks form) h = h
+  performs_asked (rebuilds k loss.Sectors form) h = h
 
 -- one that is to join comes last
 pub joins_last : (ask : Ask) → is_some (device_to_add ask) ≡ true → leaving_of ask ≡ None
@@ -177,13 +180,6 @@ refused_back ask before after was brings same = record {
   within = λ there. rw (joins_last ask (sym brings ∙ there)) (le_refl _);
   moves = λ there. rw (sym brings ∙ there) refl;
 }
-
--- also where it was declined
-pub all_answered : {R S A : Type 0} (r : SourceGhosts R) (s : SinkGhosts S) (q : Question A) (names : List Text) (n : Notices) (before after : OpenedView) (old new : Streams R S A) (ask : Ask) (result : Result (Unit {0}) CommandFault) → is_some before.beside ≡ is_some (device_to_add ask)
-    → PerformsOrDeclines r s q names ask n before after old new result → AllBack ask before.mirror.disks after.mirror.disks before.beside after.beside
-all_answered r s q names n before after old new ask result brings (inl h) = all_kept r s names before after old new ask result brings h.performs
-all_answered r s q names n before after old new ask result brings (inr d) =
-    subst (λ (o : OpenedView). AllBack ask before.mirror.disks o.mirror.disks before.beside o.beside) (sym d.same) (refused_back ask before.mirror.disks before.mirror.disks before.beside brings refl)
 
 counted : {X Y : Type 0} (f : X → Y) (o : Option X) → count (option_map f o) ≡ count o
 counted f None = refl
@@ -240,3 +236,30 @@ module _ {D : Type 0} (g : Ghosts D) (ask : Ask) (members given : List D) (was l
       by (Some d) =
           map-insert (disk_of g) given (beside_place ask (length given)) d
           ∙ ap₂ (λ (n : ℕ) (ds : List Disk). insert ds (beside_place ask n) (disk_of g d)) long are
+
+-- how many devices come back, and in which order
+beside_long : {X : Type 0} (ask : Ask) (xs : List X) (o : Option X) → (is_some o ≡ true → beside_place ask (length xs) ≤ length xs) → length (with_beside ask xs o) ≡ length xs + count o
+beside_long ask xs None fits = sym (plus_zero (length xs))
+beside_long ask xs (Some x) fits = length-insert xs (beside_place ask (length xs)) x (fits refl)
+
+pub shown_beside : {D : Type 0} (g : Ghosts D) (ask : Ask) (given : List D) (left : Option D) (after : List Disk) → map (disk_of g) given ≡ after → map (disk_of g) (with_beside ask given left) ≡ with_beside ask after (option_map (disk_of g) left)
+shown_beside g ask given None after are = are
+shown_beside g ask given (Some d) after are =
+    map-insert (disk_of g) given (beside_place ask (length given)) d
+    ∙ ap₂ (λ (n : ℕ) (ds : List Disk). insert ds (beside_place ask n) (disk_of g d)) (sym (length-map given (disk_of g)) ∙ ap length are) are
+
+-- the same, of devices as contracts see them
+module _ {D : Type 0} (g : Ghosts D) (ask : Ask) (members : List D) (was left : Option D) (before after : List Disk) (many : length before ≡ length members) (back : AllBack ask before after (option_map (disk_of g) was) (option_map (disk_of g) left)) where
+  pub room_left : (room : ℕ) → (moves_device ask ≡ true → length members + count was ≤ room) → is_some left ≡ true → length after < room
+  room_left room enough there =
+      let fits = enough (back.moves (seen_there (disk_of g) left there)) in
+      let sum : length after + count left ≡ length members + count was = ap (λ (n : ℕ). length after + n) (sym (counted (disk_of g) left)) ∙ back.as_many ∙ ap₂ (λ (m n : ℕ). m + n) many (counted (disk_of g) was) in
+      omega (arith, fits, sum, one_counted left there)
+
+  pub within_left : is_some left ≡ true → beside_place ask (length after) ≤ length after
+  within_left there = back.within (seen_there (disk_of g) left there)
+
+  pub as_many_left : (all : List D) → map (disk_of g) all ≡ with_beside ask after (option_map (disk_of g) left) → length all ≡ length members + count was
+  as_many_left all is =
+      sym (length-map all (disk_of g)) ∙ ap length is ∙ beside_long ask after (option_map (disk_of g) left) back.within
+      ∙ back.as_many ∙ ap₂ (λ (m n : ℕ). m + n) many (counted (disk_of g) was)

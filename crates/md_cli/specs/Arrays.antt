@@ -64,6 +64,14 @@ answer_of_overlays (Err (Open (MetadataFault k))) = Err NoMemory
 answer_of_overlays (Err (Grow (grow_fault.MetadataFault k))) = Err NoMemory
 answer_of_overlays result = result
 
+-- Where the command names an image that is to join, its device is the last. It is taken out, and was looked at then.
+pub record TakesLast (ask : Ask) (all members : List Disk) (seen : Option Disk)
+    (old new : Notices) : Type 0 where
+  pub device : Option Disk
+  pub are : all ≡ with_last members device
+  pub brings : is_some device ≡ is_some (device_to_add ask)
+  pub looks : NotesHeldOnJoining device seen old new
+
 module _ {R S A : Type 0} (r : SourceGhosts R) (s : SinkGhosts S) (q : Question A) (names : List Text)
     (ask : Ask) where
   -- The devices of the members are opened as a mirror, and the command is done with it, where the question allows it. All

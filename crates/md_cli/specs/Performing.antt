@@ -12,6 +12,7 @@ use Rattle.md_commands.specs.Output.{PutsOut, ShowsText}
 use Rattle.md_commands.specs.Planning.{RefusesToPlan, ShowsPlan}
 use Rattle.md_commands.specs.ReAdding.{ReAddsDevice, RefusesToReAdd}
 use Rattle.md_commands.specs.Rebuilding.{RebuildsArray, RebuiltText, RefusesToRebuild, rebuilt_shown}
+use Rattle.md_commands.specs.Salvaging.{RefusesToSalvage, SalvagedText, SalvagesArray, salvaged_object_line, salvaged_shown}
 use Rattle.md_commands.specs.Removing.{HandsBack, RefusesToRemove, RemovesMember}
 use Rattle.md_commands.specs.Resyncing.{RefusesToResync, ResyncsArray}
 use Rattle.md_commands.specs.Stopping.{RefusesToStop, StopsArray, StopsArrayAfter}
@@ -42,6 +43,7 @@ use Rattle.md_words.specs.declared.form.DetailForm.{DetailForm}
 use Rattle.md_words.specs.declared.form.DetailForm.TheVariants as detail_form
 use Rattle.md_words.specs.declared.form.RebuildForm.{RebuildForm}
 use Rattle.md_words.specs.declared.form.RebuildForm.TheVariants as rebuild_form
+use Rattle.md_words.specs.declared.loss.Loss.TheVariants as loss
 use Rattle.md_cli.specs.Opened.{OpenedView}
 use Rattle.md_cli.specs.Streams.{Streams}
 
@@ -60,6 +62,12 @@ abbrev pub rebuilt_told : RebuildForm → ℕ → RebuiltText
 rebuilt_told rebuild_form.Plans k = rebuilt_shown false k
 rebuilt_told rebuild_form.Line k = rebuilt_shown true k
 rebuilt_told rebuild_form.Json k = rebuilt_object_line k
+
+-- what is told of it where bad sectors are lost, and not their chunks
+abbrev pub salvaged_told : RebuildForm → ℕ → SalvagedText
+salvaged_told rebuild_form.Plans k = salvaged_shown false k
+salvaged_told rebuild_form.Line k = salvaged_shown true k
+salvaged_told rebuild_form.Json k = salvaged_object_line k
 
 -- how many sectors are read from this one on: as many as are asked for, or else all up to the end of the array
 abbrev pub sectors_asked : ArrayView → ℕ → Option ℕ → ℕ
@@ -300,10 +308,15 @@ module _ {R S A : Type 0} (r : SourceGhosts R) (s : SinkGhosts S) (names : List 
       (new.input ≡ old.input)
       × PerformsReAdd s (summary_shown (codes "re-add") json names) (rebuild_extent full) before after
       old.output new.output result
-  Performs (rebuilds k form) before after old new result =
+  Performs (rebuilds k loss.Chunks form) before after old new result =
       (after.beside ≡ before.beside) × (new.input ≡ old.input)
       × MatchResult result
       (λ _. RebuildsArray s k before.mirror after.mirror old.output new.output (rebuilt_told form k))
       (RefusesToRebuild s k before.mirror after.mirror old.output new.output)
+  Performs (rebuilds k loss.Sectors form) before after old new result =
+      (after.beside ≡ before.beside) × (new.input ≡ old.input)
+      × MatchResult result
+      (λ _. SalvagesArray s k before.mirror after.mirror old.output new.output (salvaged_told form k))
+      (RefusesToSalvage s k before.mirror after.mirror old.output new.output)
   -- the others open no array
   Performs _ before after old new result = ⊥

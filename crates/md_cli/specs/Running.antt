@@ -8,7 +8,8 @@ use Rattle.md_create.specs.declared.params.CreateParams.{CreateParams}
 use Rattle.md_commands.specs.declared.fault.CommandFault.{CommandFault}
 use Rattle.md_commands.specs.declared.fault.CommandFault.TheVariants as fault
 use Rattle.md_commands.specs.declared.option_fault.OptionFault.{OptionFault}
-use Rattle.md_words.specs.Asks.{Ask, Options, access_of, creates, grows, examines, examines_badblocks, examines_bitmap, is_json, is_readonly, scans, tells_by_status}
+use Rattle.md_words.specs.Asks.{Ask, Options, access_of, creates, grows, examines, examines_badblocks, examines_bitmap, is_json, is_readonly, scan_form, scans, tells_by_status}
+use Rattle.md_words.specs.Parsing.{asked, bitmap_word, image_words, words_fault}
 use Rattle.md_commands.specs.declared.source.Source.{Ghosts as SourceGhosts}
 use Rattle.md_examine.specs.declared.sink.Sink.{Ghosts as SinkGhosts}
 use Rattle.md_examine_commands.specs.Examining.{ExaminesOne}
@@ -16,6 +17,7 @@ use Rattle.md_examine_commands.specs.EachImage.{Name}
 use Rattle.md_messages.specs.declared.messages.Messages.{Messages}
 use Rattle.md_messages.specs.Noticed.{nothing}
 use Rattle.md_messages.specs.Question.{question}
+use Rattle.md_messages.specs.Telling.{TellsNoticed}
 use Rattle.md_messages.specs.declared.asker.Asker.{Ghosts as AskerGhosts}
 use Rattle.md_messages.specs.declared.notices.Notices.{Notices}
 use Rattle.md_cli.specs.Arrays.{KeepsImages, UsesImages, WorksOn, names_with}
@@ -24,7 +26,8 @@ use Rattle.md_cli.specs.Creating.{CreatesOn}
 use Rattle.md_cli.specs.Growing.{GrowsArray, chunk_in_memory}
 use Rattle.md_cli.specs.Refusing.{ShowsIfRefused}
 use Rattle.md_cli.specs.Scanning.{ScansImages}
-use Rattle.md_cli.specs.Streams.{OnlyPutsOut, Streams, Told}
+use Rattle.md_cli.specs.Streams.{OnlyPutsOut, Streams, Told, audience_of, streams_of}
+use Rattle.md_cli.specs.declared.session.Session.{Session}
 use Rattle.md_images.specs.Taking.{image_list}
 
 -- whether members were found to differ in some chunk
@@ -142,3 +145,30 @@ pub record DoesScan {I D S E R A : Type 0} (i : ImagesGhosts I D) (g : DeviceGho
       after old.output new.output was now status
   pub looked : i.known before ≡ true → (name : Text) → i.asked after name ≡ i.asked before name
   pub only : new ≡ record old { output = new.output }
+
+-- What a run gives of these words; whether they could not be parsed.
+module _ {I D T R S W A E : Type 0} (i : ImagesGhosts I D) (g : DeviceGhosts D) (r : SourceGhosts R)
+    (s : SinkGhosts S) (asker : AskerGhosts A) (e : SinkGhosts E) (messages : Messages) (words : List Text)
+    (unparsed : Bool) (before after : I) (old new : Session T R S W A) (was now : E) (status : ℕ) where
+  abbrev pub RunsNothing : Type 0
+  RunsNothing = (status ≡ 2) × DoesNothing before after (streams_of old) (streams_of new)
+
+  -- of words that are not taken
+  abbrev pub RunsRefused : Type 0
+  RunsRefused = words_fault words ≢ [] → RunsNothing
+
+  -- Of words that are taken, but of those of a scan. Where they could not be parsed there was no memory for it.
+  abbrev pub RunsTaken : Type 0
+  RunsTaken = words_fault words ≡ [] → scan_form (asked words) ≡ None →
+      ((unparsed ≡ true) × RunsNothing)
+      ⊎ DoesCommand i g r s asker old.random_bytes (bitmap_word words)
+      (TellsNoticed e (audience_of asker old messages) (asked words) (image_words words)
+      (streams_of new).gaps was now)
+      (asked words) (image_words words) before after (streams_of old) (streams_of new) status
+
+  -- of those of a scan
+  abbrev pub RunsScan : Type 0
+  RunsScan = words_fault words ≡ [] → (json : Bool) → scan_form (asked words) ≡ Some json →
+      ((unparsed ≡ true) × RunsNothing)
+      ⊎ DoesScan i g s e json messages (image_words words) before after (streams_of old) (streams_of new)
+      was now status

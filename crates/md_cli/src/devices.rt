@@ -1,16 +1,17 @@
 // What commands do with the devices of images, as an array.
 ghost use Rattle.std.specs.Prelude.{◌≡◌, ◌+◌, ◌<◌, ◌≤◌, [], IfOk, is_some, length, option_map, true, vec_capacity};
 ghost use Rattle.md_state.specs.View.{disk_of};
-ghost use Rattle.md_words.specs.Asks.{ask_of, device_to_add, is_readonly, opens_array};
+ghost use Rattle.md_words.specs.Asks.{array_ask, device_to_add};
+ghost use Rattle.md_messages.specs.Noticed.{with_dropped};
 ghost use Rattle.md_messages.specs.Question.{question};
 ghost use Rattle.md_messages.specs.Telling.{texts};
-ghost use Rattle.md_cli.specs.Arrays.{LooksAtDevices, OpensDevices, OpensMembers, WorksOn, answer_of_overlays, disks};
-ghost use Rattle.md_cli.specs.Opened.{count, moves_device};
+ghost use Rattle.md_cli.specs.Arrays.{LooksAtDevices, OpensDevices, TakesLast, answer_of_overlays, disks};
+ghost use Rattle.md_cli.specs.Opened.{beside_place, count, with_beside};
 ghost use Rattle.md_cli.specs.Streams.{told_of};
 
-use crate::asking::perform_asked;
 use crate::in_memory::with_bitmap;
 use crate::opened::{Opened, all_back, room_for};
+use crate::performing::perform;
 use crate::read_watch::ReadWatch;
 use crate::session::Session;
 use md_array::{Mirror, OpenFault};
@@ -18,51 +19,17 @@ use md_commands::{CommandFault, Source};
 use md_device::Device;
 use md_examine::Sink;
 use md_images::{SharedRead, lay_over};
-use md_messages::{Asker, Notices};
+use md_messages::{Asker, Notices, ask_first};
 use md_metadata::GrowFault;
-use md_words::Command;
+use md_words::{ArrayCommand, Command};
+use std::alloc::Global;
 use std::sync::Wait;
 use std::thread::Threads;
 
-/// Does a command with the array that devices make, of which the last is the one that is to join it. They come back in
-/// their order. `notices` gets what is noticed of the array. The names are those of the devices' images. Of devices that are only
-/// looked at the members may get a bitmap in memory.
-pub(crate) fn with_devices<
-    D: SharedRead + Drop + Send + Sync,
-    T: Threads + Wait + Sync,
-    R: Source + Drop,
-    S: Sink + Drop,
-    W: ReadWatch + Sync,
-    A: Asker + Drop,
->(
-    session: &mut Session<'_, T, R, S, W, A>,
-    command: Command<'_>,
-    chunk: Option<u32>,
-    devices: Vec<D>,
-    notices: &mut Notices,
-    names: &[&str],
-) -> (Vec<D>, Result<(), CommandFault>)
-    requires opens { opens_array (ask_of command) ≡ true }
-    requires brings { is_some (device_to_add (ask_of command)) ≡ true → 0 < length devices.items }
-    ensures as_many { length result.0.items ≡ length devices.items }
-    ensures kept { is_readonly (ask_of command.entry) ≡ true → result.0.items ≡ devices.items }
-    ensures gives { WorksOn R.Source S.Sink
-        (question A.Asker (ask_of command.entry) (texts names.now)) (texts names.now)
-        (ask_of command.entry) chunk
-        (disks D.Device devices.items) (disks D.Device result.0.items)
-        (told_of session.old notices.old) (told_of session.new notices.new) result.1 }
-    ensures flushed { IfOk result.1 (λ _. S.is_flushed session.new.out) }
-{
-    if command.is_readonly() {
-        let result = look_at_devices(session, command, chunk, &devices, notices, names);
-        return (devices, result);
-    }
-    open_devices(session, command, devices, notices, names)
-}
-
-// Does a command with devices that are only looked at: what is written to the array is kept in memory. So is a bitmap that
-// its members get first, where one is asked for.
-fn look_at_devices<
+/// Does a command with devices that are only looked at: what is written to the array is kept in memory. So is a bitmap that
+/// its members get first, where one is asked for. The names are those of the devices' images, of which the last is the one that is
+/// to join the array. `notices` gets what is noticed of it.
+pub(crate) fn look_at_devices<
     D: SharedRead + Drop + Sync,
     T: Threads + Wait + Sync,
     R: Source + Drop,
@@ -71,17 +38,16 @@ fn look_at_devices<
     A: Asker + Drop,
 >(
     session: &mut Session<'_, T, R, S, W, A>,
-    command: Command<'_>,
+    command: ArrayCommand<'_>,
     chunk: Option<u32>,
     devices: &[D],
     notices: &mut Notices,
     names: &[&str],
 ) -> Result<(), CommandFault>
-    requires opens { opens_array (ask_of command) ≡ true }
-    requires brings { is_some (device_to_add (ask_of command)) ≡ true → 0 < length devices.now }
+    requires brings { is_some (device_to_add (array_ask command)) ≡ true → 0 < length devices.now }
     ensures gives { LooksAtDevices R.Source S.Sink
-        (question A.Asker (ask_of command.entry) (texts names.now)) (texts names.now)
-        (ask_of command.entry) chunk
+        (question A.Asker (array_ask command.entry) (texts names.now)) (texts names.now)
+        (array_ask command.entry) chunk
         (disks D.Device devices.now)
         (told_of session.old notices.old) (told_of session.new notices.new) result }
     ensures flushed { IfOk result (λ _. S.is_flushed session.new.out) }
@@ -113,8 +79,10 @@ fn answer_of_overlays(answer: Result<(), CommandFault>) -> Result<(), CommandFau
     }
 }
 
-// Opens devices as an array, but for the one that is to join it, and does a command with it.
-fn open_devices<
+/// Opens devices as an array, but for the last where it is to join it, and does a command with it. They come back in their
+/// order. Where the command would overwrite what perhaps should stay, by what was noticed, it is asked first. The names are those of
+/// the devices' images. `notices` gets what is noticed of the array.
+pub(crate) fn open_devices<
     D: Device + Drop + Send,
     T: Threads + Wait + Sync,
     R: Source + Drop,
@@ -123,17 +91,16 @@ fn open_devices<
     A: Asker + Drop,
 >(
     session: &mut Session<'_, T, R, S, W, A>,
-    command: Command<'_>,
+    command: ArrayCommand<'_>,
     mut devices: Vec<D>,
     notices: &mut Notices,
     names: &[&str],
 ) -> (Vec<D>, Result<(), CommandFault>)
-    requires opens { opens_array (ask_of command) ≡ true }
-    requires brings { is_some (device_to_add (ask_of command)) ≡ true → 0 < length devices.items }
+    requires brings { is_some (device_to_add (array_ask command)) ≡ true → 0 < length devices.items }
     ensures as_many { length result.0.items ≡ length devices.items }
     ensures gives { OpensDevices R.Source S.Sink
-        (question A.Asker (ask_of command.entry) (texts names.now)) (texts names.now)
-        (ask_of command.entry)
+        (question A.Asker (array_ask command.entry) (texts names.now)) (texts names.now)
+        (array_ask command.entry)
         (disks D.Device devices.items) (disks D.Device result.0.items)
         (told_of session.old notices.old) (told_of session.new notices.new) result.1 }
     ensures flushed { IfOk result.1 (λ _. S.is_flushed session.new.out) }
@@ -141,70 +108,74 @@ fn open_devices<
     let Ok(list) = room_for(session.alloc, command, devices.len()) else {
         return (devices, Err(CommandFault::NoMemory));
     };
+    let beside = take_beside(session.alloc, command, &mut devices, notices);
+    let mirror = match Mirror::open(session.alloc, devices) {
+        Ok(mirror) => mirror,
+        Err((members, fault)) => {
+            let devices = all_back(command, list, members, beside);
+            return (devices, Err(CommandFault::Open(fault)));
+        }
+    };
+    let asked = Command::Array(command);
+    notices.note(asked, &mirror);
+    let mut opened = Opened { mirror, beside };
+    match ask_first(session.alloc, &mut session.asker, asked, notices, names) {
+        Ok(()) => {
+            let done = perform(session, command, &mut opened, names);
+            (let_go(command, list, opened, notices), done)
+        }
+        Err(fault) => (let_go(command, list, opened, notices), Err(fault)),
+    }
+}
+
+// Takes the device out of the list that is to join the array, where the command brings one: the last. What it holds is noted.
+fn take_beside<D: Device + Drop>(
+    alloc: Global,
+    command: ArrayCommand<'_>,
+    devices: &mut Vec<D>,
+    notices: &mut Notices,
+) -> Option<D>
+    requires brings { is_some (device_to_add (array_ask command)) ≡ true → 0 < length devices.old.items }
+    ensures as_many { length devices.new.items + count result ≡ length devices.old.items }
+    ensures brings { is_some result ≡ is_some (device_to_add (array_ask command.entry)) }
+    ensures takes { TakesLast (array_ask command.entry)
+        (disks D.Device devices.old.items) (disks D.Device devices.new.items)
+        (option_map (disk_of D.Device) result) notices.old notices.new }
+{
     match command.device() {
-        None => open_members(session, command, devices, None, list, notices, names),
+        None => None,
         Some(_) => {
             let Some(mut device) = devices.pop() else {
                 unreachable!()
             };
-            notices.note_held(session.alloc, &mut device);
-            open_members(
-                session,
-                command,
-                devices,
-                Some(device),
-                list,
-                notices,
-                names,
-            )
+            notices.note_held(alloc, &mut device);
+            Some(device)
         }
     }
 }
 
-// Opens the devices of the members as an array, and does a command with it and with the device that is to join it. All of
-// them come back in the order of their images, in a list that is empty and has room for them.
-fn open_members<
-    D: Device + Drop + Send,
-    T: Threads + Wait + Sync,
-    R: Source + Drop,
-    S: Sink + Drop,
-    W: ReadWatch + Sync,
-    A: Asker + Drop,
->(
-    session: &mut Session<'_, T, R, S, W, A>,
-    command: Command<'_>,
-    members: Vec<D>,
-    beside: Option<D>,
+// Lets go of an array as a command left it: all devices come back in the order of their images, in a list that is empty and has room
+// for them. What the array dropped is noted.
+fn let_go<D: Device + Drop>(
+    command: ArrayCommand<'_>,
     list: Vec<D>,
+    opened: Opened<D>,
     notices: &mut Notices,
-    names: &[&str],
-) -> (Vec<D>, Result<(), CommandFault>)
-    requires opens { opens_array (ask_of command) ≡ true }
-    requires brings { is_some beside ≡ is_some (device_to_add (ask_of command)) }
+) -> Vec<D>
     requires empty { list.items ≡ [] }
-    requires room { moves_device (ask_of command) ≡ true →
-        length members.items + count beside ≤ vec_capacity list }
-    ensures as_many { length result.0.items ≡ length members.items + count beside }
-    ensures gives { OpensMembers R.Source S.Sink
-        (question A.Asker (ask_of command.entry) (texts names.now)) (texts names.now)
-        (ask_of command.entry)
-        (disks D.Device members.items) (option_map (disk_of D.Device) beside)
-        (disks D.Device result.0.items)
-        (told_of session.old notices.old) (told_of session.new notices.new) result.1 }
-    ensures flushed { IfOk result.1 (λ _. S.is_flushed session.new.out) }
+    requires room { is_some opened.beside ≡ true → length opened.mirror.disks < vec_capacity list }
+    requires within { is_some opened.beside ≡ true →
+        beside_place (array_ask command) (length opened.mirror.disks) ≤ length opened.mirror.disks }
+    ensures dropped { notices.new ≡ with_dropped (array_ask command.entry) opened.mirror.array
+        (is_some opened.beside) notices.old }
+    ensures all { disks D.Device result.items ≡ with_beside (array_ask command.entry) opened.mirror.disks
+        (option_map (disk_of D.Device) opened.beside) }
 {
-    match Mirror::open(session.alloc, members) {
-        Ok(mirror) => {
-            notices.note(command, &mirror);
-            let mut opened = Opened { mirror, beside };
-            let done = perform_asked(session, command, &mut opened, notices, names);
-            notices.note_dropped(command, &opened.mirror, opened.beside.is_some());
-            let members = opened.mirror.into_devices();
-            (all_back(command, list, members, opened.beside), done)
-        }
-        Err((members, fault)) => {
-            let devices = all_back(command, list, members, beside);
-            (devices, Err(CommandFault::Open(fault)))
-        }
-    }
+    notices.note_dropped(
+        Command::Array(command),
+        &opened.mirror,
+        opened.beside.is_some(),
+    );
+    let members = opened.mirror.into_devices();
+    all_back(command, list, members, opened.beside)
 }

@@ -14,7 +14,6 @@
 #![tactic(auto)]
 
 mod arrays;
-mod asking;
 mod create_options;
 mod creating;
 mod devices;

@@ -1,11 +1,11 @@
 // An opened array, and a device beside it.
 ghost use Rattle.std.specs.Prelude.{◌≡◌, ◌<◌, ◌≤◌, [], IfErr, IfOk, is_some, length, true, vec_capacity};
-ghost use Rattle.md_words.specs.Asks.{ask_of, device_to_add, leaving_of};
+ghost use Rattle.md_words.specs.Asks.{array_ask, device_to_add, leaving_of};
 ghost use Rattle.md_cli.specs.Opened.{moves_device, beside_place, with_beside};
 
 use md_array::Mirror;
 use md_device::Device;
-use md_words::Command;
+use md_words::ArrayCommand;
 use std::alloc::{AllocError, Global};
 
 /// An array as a mirror, and a device that is none of its members': before a command one that is to join, and after it
@@ -19,13 +19,13 @@ pub(crate) struct Opened<D: Device + Drop> {
 /// A list that is empty. Where a device may come back from beside the array, it has room for so many.
 pub(crate) fn room_for<D>(
     alloc: Global,
-    command: Command<'_>,
+    command: ArrayCommand<'_>,
     count: usize,
 ) -> Result<Vec<D>, AllocError>
     ensures empty { IfOk result (λ list. list.items ≡ []) }
     ensures room { IfOk result
-        (λ list. moves_device (ask_of command.entry) ≡ true → count ≤ vec_capacity list) }
-    ensures memory { IfErr result (λ _. moves_device (ask_of command.entry) ≡ true) }
+        (λ list. moves_device (array_ask command.entry) ≡ true → count ≤ vec_capacity list) }
+    ensures memory { IfErr result (λ _. moves_device (array_ask command.entry) ≡ true) }
 {
     if command.device().is_some() || command.leaving().is_some() {
         return Vec::with_capacity(alloc, count);
@@ -34,8 +34,8 @@ pub(crate) fn room_for<D>(
 }
 
 // The place among all devices of the one beside the array: that of the member that left, or the last.
-fn place_of(command: Command<'_>, last: usize) -> usize
-    ensures { result ≡ beside_place (ask_of command.entry) last }
+fn place_of(command: ArrayCommand<'_>, last: usize) -> usize
+    ensures { result ≡ beside_place (array_ask command.entry) last }
 {
     match command.leaving() {
         Some(member) => member as usize,
@@ -46,7 +46,7 @@ fn place_of(command: Command<'_>, last: usize) -> usize
 /// All devices, those of the members and the one beside them, in the order of their images, in a list that is empty and
 /// has room for them.
 pub(crate) fn all_back<D: Drop>(
-    command: Command<'_>,
+    command: ArrayCommand<'_>,
     mut list: Vec<D>,
     mut members: Vec<D>,
     beside: Option<D>,
@@ -54,8 +54,8 @@ pub(crate) fn all_back<D: Drop>(
     requires empty { list.items ≡ [] }
     requires room { is_some beside ≡ true → length members.items < vec_capacity list }
     requires within { is_some beside ≡ true →
-        beside_place (ask_of command) (length members.items) ≤ length members.items }
-    ensures { result.items ≡ with_beside (ask_of command.entry) members.items beside }
+        beside_place (array_ask command) (length members.items) ≤ length members.items }
+    ensures { result.items ≡ with_beside (array_ask command.entry) members.items beside }
 {
     let Some(device) = beside else {
         return members;

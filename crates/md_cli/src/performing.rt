@@ -1,7 +1,7 @@
 // What commands do with an opened array.
 ghost use Rattle.std.specs.Prelude.{◌≡◌, IfOk, MatchResult, codes, false, is_some, option_map, true};
 ghost use Rattle.md_array.specs.Consistency.{IsConsistent};
-ghost use Rattle.md_words.specs.Asks.{ask_of, compares, device_to_add, fills, opens_array};
+ghost use Rattle.md_words.specs.Asks.{array_ask, compares, device_to_add, fills};
 ghost use Rattle.md_state.specs.View.{disk_of};
 ghost use Rattle.md_commands.specs.Adding.{AddsDevice, KeepsDevice, RefusesJoining};
 ghost use Rattle.md_commands.specs.Objects.{plan_shown, summary_shown};
@@ -9,11 +9,12 @@ ghost use Rattle.md_commands.specs.Output.{ShowsText};
 ghost use Rattle.md_commands.specs.Planning.{RefusesToPlan, ShowsPlan};
 ghost use Rattle.md_commands.specs.ReAdding.{ReAddsDevice, RefusesToReAdd};
 ghost use Rattle.md_commands.specs.Rebuilding.{RebuildsArray, RefusesToRebuild};
+ghost use Rattle.md_commands.specs.Salvaging.{RefusesToSalvage, SalvagesArray};
 ghost use Rattle.md_commands.specs.Stopping.{StopsArrayAfter};
 ghost use Rattle.md_read_commands.specs.Filling.{has_put_all};
 ghost use Rattle.md_messages.specs.Telling.{texts};
 ghost use Rattle.md_cli.specs.Opened.{opened_view};
-ghost use Rattle.md_cli.specs.Performing.{PerformsAdd, PerformsCheck, Performs, PerformsReAdd, PerformsReadOn, PerformsRemove, PerformsServe, PerformsStop, PerformsWrite, ReadsFilledOn, ShowsMismatches, ShowsSectors, detail_shown, rebuild_extent, rebuilt_told, sectors_asked};
+ghost use Rattle.md_cli.specs.Performing.{Performs, PerformsAdd, PerformsCheck, PerformsReAdd, PerformsReadOn, PerformsRemove, PerformsServe, ReadsFilledOn, ShowsMismatches, ShowsSectors, detail_shown, rebuild_extent, rebuilt_told, salvaged_told, sectors_asked};
 ghost use Rattle.md_cli.specs.Streams.{streams_of};
 
 use crate::opened::Opened;
@@ -26,8 +27,8 @@ use md_commands::{
     CommandFault, RebuildExtent, Returning, Source, Watch, add_device, add_device_json,
     check_members, check_members_json, fail_member, list_mismatches, re_add_device,
     re_add_device_json, rebuild_member, rebuild_member_json, remove_member, resync_array,
-    show_detail, show_detail_json, show_plan, show_plan_json, show_verbose_detail, stop_array,
-    stop_array_json, write_array,
+    salvage_member, salvage_member_json, show_detail, show_detail_json, show_plan, show_plan_json,
+    show_verbose_detail, stop_array, stop_array_json, write_array,
 };
 use md_device::Device;
 use md_examine::Sink;
@@ -36,14 +37,14 @@ use md_read_commands::{
     FillWatch, has_put_all, read_array, read_array_filled, read_array_readonly, serve_array,
 };
 use md_serve_commands::serve_writable;
-use md_words::{CheckForm, Command, DetailForm, RebuildForm};
+use md_words::{ArrayCommand, CheckForm, DetailForm, Loss, RebuildForm};
 use std::alloc::Global;
 use std::sync::Wait;
 use std::thread::Threads;
 
 /// Does a command with an opened array; the names are those of its images. The input is read by `Write`, `Serve` and
 /// `ServeWritable` alone, and these two tell the session's `watch` of each request that they refuse. `Check`, `Rebuild` and `ReAdd` alone
-/// start threads, and tell it of their reads.
+/// start threads, and tell it of their reads. `Rebuild` and `ReAdd` alone may wait for them.
 pub(crate) fn perform<
     D: Device + Drop + Send,
     T: Threads + Wait + Sync,
@@ -53,64 +54,66 @@ pub(crate) fn perform<
     A: Drop,
 >(
     session: &mut Session<'_, T, R, S, W, A>,
-    command: Command<'_>,
+    command: ArrayCommand<'_>,
     opened: &mut Opened<D>,
     names: &[&str],
 ) -> Result<(), CommandFault>
     requires sound { IsConsistent opened.old.mirror }
-    requires opens { opens_array (ask_of command) ≡ true }
-    requires brings { is_some opened.old.beside ≡ is_some (device_to_add (ask_of command)) }
-    ensures performs { Performs R.Source S.Sink (texts names.now) (ask_of command.entry)
+    requires brings { is_some opened.old.beside ≡ is_some (device_to_add (array_ask command)) }
+    ensures performs { Performs R.Source S.Sink (texts names.now) (array_ask command.entry)
         (opened_view D.Device opened.old) (opened_view D.Device opened.new)
         (streams_of session.old) (streams_of session.new) result }
-    ensures noted { fills (ask_of command.entry) ≡ false → session.new.gaps ≡ session.old.gaps }
-    ensures counted { compares (ask_of command.entry) ≡ false
+    ensures noted { fills (array_ask command.entry) ≡ false → session.new.gaps ≡ session.old.gaps }
+    ensures counted { compares (array_ask command.entry) ≡ false
         → session.new.mismatched ≡ session.old.mismatched }
     ensures unasked { session.new.asker ≡ session.old.asker }
     ensures flushed { IfOk result (λ _. S.is_flushed session.new.out) }
 {
     let (rt, alloc, watch) = (session.rt, session.alloc, session.watch);
     match command {
-        Command::Examine { .. }
-        | Command::ExamineBitmap { .. }
-        | Command::ExamineBadblocks { .. }
-        | Command::Scan { .. }
-        | Command::Create(_)
-        | Command::Grow { .. } => unreachable!(),
-        Command::Assemble { json, .. } => {
+        ArrayCommand::Assemble { json, .. } => {
             assemble(&opened.mirror, json, names, &mut session.out)
         }
-        Command::Detail { form, .. } => detail(&opened.mirror, form, names, &mut session.out),
-        Command::Plan { member, json, .. } => {
+        ArrayCommand::Detail { form, .. } => detail(&opened.mirror, form, names, &mut session.out),
+        ArrayCommand::Plan { member, json, .. } => {
             plan(alloc, &opened.mirror, member, json, names, &mut session.out)
         }
-        Command::Read {
+        ArrayCommand::Read {
             sector,
             count,
             fill,
             readonly,
         } => { read_sectors(session, opened, sector, count, fill, readonly) }
-        Command::Serve { fill } => serve(session, opened, fill),
-        Command::ServeWritable => {
+        ArrayCommand::Serve { fill } => serve(session, opened, fill),
+        ArrayCommand::ServeWritable => {
             let (mirror, input) = (&mut opened.mirror, &mut session.input);
             serve_writable(alloc, mirror, watch, input, &mut session.out)
         }
-        Command::Check { form, .. } => check(session, opened, form, names),
-        Command::Write { sector, count } => {
-            let (input, out) = (&mut session.input, &mut session.out);
-            write_input(alloc, opened, sector, count, input, watch, out)
+        ArrayCommand::Check { form, .. } => check(session, opened, form, names),
+        ArrayCommand::Write { sector, count } => {
+            let (mirror, input) = (&mut opened.mirror, &mut session.input);
+            let out = &mut session.out;
+            Ok(write_array(alloc, mirror, sector, count, input, watch, out)?)
         }
-        Command::Resync => Ok(resync_array(alloc, &mut opened.mirror, &mut session.out)?),
-        Command::Stop { json } => stop(opened, json, names, &mut session.out),
-        Command::Fail { member } => {
+        ArrayCommand::Resync => Ok(resync_array(alloc, &mut opened.mirror, &mut session.out)?),
+        ArrayCommand::Stop { json: false } => {
+            Ok(stop_array(&mut opened.mirror, &mut session.out)?)
+        }
+        ArrayCommand::Stop { json: true } => {
+            Ok(stop_array_json(&mut opened.mirror, names, &mut session.out)?)
+        }
+        ArrayCommand::Fail { member } => {
             Ok(fail_member(&mut opened.mirror, member, &mut session.out)?)
         }
-        Command::Remove { member } => remove(opened, member, &mut session.out),
-        Command::Add { json, .. } => add(alloc, opened, json, names, &mut session.out),
-        Command::ReAdd { full, json, .. } => re_add(session, opened, full, json, names),
-        Command::Rebuild { member, form } => {
+        ArrayCommand::Remove { member } => remove(opened, member, &mut session.out),
+        ArrayCommand::Add { json, .. } => add(alloc, opened, json, names, &mut session.out),
+        ArrayCommand::ReAdd { full, json, .. } => re_add(session, opened, full, json, names),
+        ArrayCommand::Rebuild { member, loss, form } => {
             let (mirror, out) = (&mut opened.mirror, &mut session.out);
-            rebuild(rt, alloc, mirror, member, form, watch, out)
+            match loss {
+                Loss::Chunks => rebuild(rt, alloc, mirror, member, form, watch, out),
+                Loss::Sectors => salvage(rt, alloc, mirror, member, form, watch, out),
+            }
         }
     }
 }
@@ -293,27 +296,6 @@ fn serve<D: Device + Drop, T, R: Source + Drop, S: Sink + Drop, W: ClientWatch, 
     Ok(served?)
 }
 
-// Writes the input to the array, and stops it. The watch is told how much of one that is written piece by piece stands.
-fn write_input<D: Device + Drop, R: Source, W: Watch, S: Sink>(
-    alloc: Global,
-    opened: &mut Opened<D>,
-    sector: u64,
-    count: Option<u64>,
-    input: &mut R,
-    watch: &W,
-    out: &mut S,
-) -> Result<(), CommandFault>
-    requires sound { IsConsistent opened.old.mirror }
-    ensures kept { (opened_view D.Device opened.new).beside ≡ (opened_view D.Device opened.old).beside }
-    ensures writes { PerformsWrite R.Source S.Sink sector count
-        (opened_view D.Device opened.old) (opened_view D.Device opened.new) input.old input.new
-        out.old out.new result }
-    ensures flushed { IfOk result (λ _. S.is_flushed out.new) }
-{
-    let mirror = &mut opened.mirror;
-    Ok(write_array(alloc, mirror, sector, count, input, watch, out)?)
-}
-
 // Compares the members in sync, and puts out in how many chunks two differ, or which these are. How many is noted.
 fn check<
     D: Device + Drop + Send,
@@ -367,25 +349,6 @@ fn compare<D: Device + Drop + Send, T: Threads + Sync, W: Watch + Sync, S: Sink>
         CheckForm::List => Ok(list_mismatches(rt, alloc, mirror, watch, out)?),
         CheckForm::Json => Ok(check_members_json(rt, alloc, mirror, watch, names, out)?),
     }
-}
-
-// Stops the array, and puts out what it is then.
-fn stop<D: Device + Drop, S: Sink>(
-    opened: &mut Opened<D>,
-    json: bool,
-    names: &[&str],
-    out: &mut S,
-) -> Result<(), CommandFault>
-    requires sound { IsConsistent opened.old.mirror }
-    ensures kept { (opened_view D.Device opened.new).beside ≡ (opened_view D.Device opened.old).beside }
-    ensures stops { PerformsStop S.Sink (summary_shown (codes "stop") json (texts names.now))
-        (opened_view D.Device opened.old) (opened_view D.Device opened.new) out.old out.new result }
-    ensures flushed { IfOk result (λ _. S.is_flushed out.new) }
-{
-    if json {
-        return Ok(stop_array_json(&mut opened.mirror, names, out)?);
-    }
-    Ok(stop_array(&mut opened.mirror, out)?)
 }
 
 // Removes the member with this index. Its device stands beside the array then, if it left.
@@ -470,6 +433,29 @@ fn rebuild<D: Device + Drop + Send, T: Threads + Wait + Sync, W: Watch + Sync, S
         RebuildForm::Plans => Ok(rebuild_member(rt, alloc, mirror, member, false, watch, out)?),
         RebuildForm::Line => Ok(rebuild_member(rt, alloc, mirror, member, true, watch, out)?),
         RebuildForm::Json => Ok(rebuild_member_json(rt, alloc, mirror, member, watch, out)?),
+    }
+}
+
+// Rebuilds the member with this index and loses sectors alone, and puts out what was done.
+fn salvage<D: Device + Drop + Send, T: Threads + Wait + Sync, W: Watch + Sync, S: Sink>(
+    rt: &T,
+    alloc: Global,
+    mirror: &mut Mirror<D>,
+    member: u32,
+    form: RebuildForm,
+    watch: &W,
+    out: &mut S,
+) -> Result<(), CommandFault>
+    requires sound { IsConsistent mirror.old }
+    ensures salvages { MatchResult result
+        (λ _. SalvagesArray S.Sink member mirror.old mirror.new out.old out.new (salvaged_told form member))
+        (RefusesToSalvage S.Sink member mirror.old mirror.new out.old out.new) }
+    ensures flushed { IfOk result (λ _. S.is_flushed out.new) }
+{
+    match form {
+        RebuildForm::Plans => Ok(salvage_member(rt, alloc, mirror, member, false, watch, out)?),
+        RebuildForm::Line => Ok(salvage_member(rt, alloc, mirror, member, true, watch, out)?),
+        RebuildForm::Json => Ok(salvage_member_json(rt, alloc, mirror, member, watch, out)?),
     }
 }
 

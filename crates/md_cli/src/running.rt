@@ -1,16 +1,16 @@
 // One command.
-ghost use Rattle.std.specs.Prelude.{◌≡◌, ◌≢◌, ◌⊎◌, Bool, [], IfOk, None, Some, false, is_err, option_map, true};
+ghost use Rattle.std.specs.Prelude.{◌≡◌, IfOk, None, false, is_err, option_map, true};
 ghost use Rattle.clap.specs.Words.{FailsBy};
 ghost use Rattle.md_words.specs.Parsing.{asked, bitmap_word, image_words, words_fault};
-ghost use Rattle.md_words.specs.Asks.{ask_of, opens_array, options_of, scan_form, tells_by_status};
+ghost use Rattle.md_words.specs.Asks.{ask_of, options_of, scan_form, tells_by_status};
 ghost use Rattle.md_messages.specs.Telling.{PutsTold, TellsNoticed, TellsRefusal, has_advice, refused_text, texts};
-ghost use Rattle.md_cli.specs.Running.{Obeys, DoesCommand, DoesNothing, DoesScan, MakesArray, OpensWithBitmap, differs, status_of};
-ghost use Rattle.md_cli.specs.Streams.{audience_of, streams_of, told_of};
+ghost use Rattle.md_cli.specs.Running.{Obeys, MakesArray, RunsRefused, RunsScan, RunsTaken, differs, status_of};
+ghost use Rattle.md_cli.specs.Streams.{told_of};
 
 use crate::arrays::with_array;
 use crate::create_options::params_of;
 use crate::creating::create_images;
-use crate::growing::{chunk_in_memory, grow_array};
+use crate::growing::grow_array;
 use crate::read_watch::ReadWatch;
 use crate::refusing::show_if_refused;
 use crate::scanning::{ScanOptions, scan};
@@ -25,7 +25,7 @@ use md_messages::{
     put_told,
 };
 use md_read_commands::Gaps;
-use md_words::{Command, CreateOptions, Request};
+use md_words::{ArrayCommand, Command, CreateOptions, Request};
 use std::alloc::Global;
 use std::io::Write;
 use std::sync::Wait;
@@ -83,24 +83,15 @@ pub fn run<
     requires images { IfOk parsed (λ r. texts r.images.items ≡ image_words (texts words.now)) }
     requires bitmap { IfOk parsed (λ r. option_map (λ s. s.now) r.bitmap ≡ bitmap_word (texts words.now)) }
     requires fails { FailsBy (words_fault (texts words.now)) parsed }
-    ensures refused { words_fault (texts words.entry.now) ≢ [] →
-        (result ≡ 2) × DoesNothing images.old images.new (streams_of session.old) (streams_of session.new) }
-    ensures taken { words_fault (texts words.entry.now) ≡ []
-        → scan_form (asked (texts words.entry.now)) ≡ None →
-        ((is_err parsed.entry ≡ true) × (result ≡ 2)
-        × DoesNothing images.old images.new (streams_of session.old) (streams_of session.new))
-        ⊎ DoesCommand I.Images I.Dev.Device R.Source S.Sink A.Asker session.old.random_bytes
-        (bitmap_word (texts words.entry.now))
-        (TellsNoticed E.Sink (audience_of A.Asker session.old messages) (asked (texts words.entry.now))
-        (image_words (texts words.entry.now)) (streams_of session.new).gaps err.old err.new)
-        (asked (texts words.entry.now)) (image_words (texts words.entry.now))
-        images.old images.new (streams_of session.old) (streams_of session.new) result }
-    ensures scans { words_fault (texts words.entry.now) ≡ [] → (json : Bool)
-        → scan_form (asked (texts words.entry.now)) ≡ Some json →
-        ((is_err parsed.entry ≡ true) × (result ≡ 2)
-        × DoesNothing images.old images.new (streams_of session.old) (streams_of session.new))
-        ⊎ DoesScan I.Images I.Dev.Device S.Sink E.Sink json messages (image_words (texts words.entry.now))
-        images.old images.new (streams_of session.old) (streams_of session.new) err.old err.new result }
+    ensures refused { RunsRefused I.Images I.Dev.Device R.Source S.Sink A.Asker E.Sink messages
+        (texts words.entry.now) (is_err parsed.entry)
+        images.old images.new session.old session.new err.old err.new result }
+    ensures taken { RunsTaken I.Images I.Dev.Device R.Source S.Sink A.Asker E.Sink messages
+        (texts words.entry.now) (is_err parsed.entry)
+        images.old images.new session.old session.new err.old err.new result }
+    ensures scans { RunsScan I.Images I.Dev.Device R.Source S.Sink A.Asker E.Sink messages
+        (texts words.entry.now) (is_err parsed.entry)
+        images.old images.new session.old session.new err.old err.new result }
     ensures flushed { result ≡ 0 → S.is_flushed session.new.out }
     ensures flushed_differing { result ≡ 3 → S.is_flushed session.new.out }
 {
@@ -111,9 +102,18 @@ pub fn run<
             return 2;
         }
     };
+    let (command, bitmap) = (request.command, request.bitmap);
     let names = request.images.as_slice();
-    match request.command.scan_form() {
-        Some(json) => {
+    let mut notices = Notices::none();
+    let audience = Audience {
+        messages,
+        was_shown: session.asker.is_told_first(),
+    };
+    let outcome = match command {
+        Command::Image(command) => {
+            examine_images(session.alloc, command, images, names, &mut session.out)
+        }
+        Command::Scan { json } => {
             let how = ScanOptions {
                 json,
                 is_named: true,
@@ -121,107 +121,19 @@ pub fn run<
             };
             return scan(session.alloc, how, images, names, &mut session.out, err);
         }
-        None => {}
-    }
-    let mut notices = Notices::none();
-    let audience = Audience {
-        messages,
-        was_shown: session.asker.is_told_first(),
-    };
-    let outcome = act(
-        session,
-        request.command,
-        request.bitmap,
-        images,
-        names,
-        &mut notices,
-    );
-    let out = &mut session.out;
-    show_if_refused(session.alloc, &outcome, request.command, names, out);
-    let gaps = &session.gaps;
-    tell_outcome(
-        &outcome,
-        request.command,
-        names,
-        &notices,
-        gaps,
-        audience,
-        err,
-    );
-    outcome_status(&outcome, request.command, session.mismatched)
-}
-
-// Does a command on the images that are named, and with the bitmap. `notices` gets what their array tells as it is opened.
-fn act<
-    I: Images,
-    T: Threads + Wait + Sync,
-    R: Source + Drop,
-    S: Sink + Drop,
-    W: ReadWatch + Sync,
-    A: Asker + Drop,
->(
-    session: &mut Session<'_, T, R, S, W, A>,
-    command: Command<'_>,
-    bitmap: Option<&str>,
-    images: &mut I,
-    names: &[&str],
-    notices: &mut Notices,
-) -> Result<(), CommandFault>
-    requires other { scan_form (ask_of command) ≡ None }
-    ensures gives { Obeys I.Images I.Dev.Device R.Source S.Sink A.Asker session.old.random_bytes
-        (option_map (λ s. s.now) bitmap.entry) (ask_of command.entry) (texts names.now)
-        images.old images.new (told_of session.old notices.old) (told_of session.new notices.new) result }
-    ensures flushed { IfOk result (λ _. S.is_flushed session.new.out) }
-{
-    if command.opens_array() {
-        return open_array(session, command, bitmap, images, names, notices);
-    }
-    let alloc = session.alloc;
-    match command {
-        Command::Create(options) => create_array(session, options, images, names, notices),
+        Command::Create(options) => create_array(session, options, images, names, &mut notices),
         Command::Grow { bitmap, chunk } => {
-            grow_array(alloc, bitmap, chunk, images, names, &mut session.out)
+            let (alloc, out) = (session.alloc, &mut session.out);
+            grow_array(alloc, bitmap, chunk, images, names, out)
         }
-        Command::Examine { .. } => examine_images(alloc, command, images, names, &mut session.out),
-        Command::ExamineBitmap { .. } => examine_images(
-            alloc,
-            command,
-            images,
-            names,
-            &mut session.out,
-        ),
-        Command::ExamineBadblocks { .. } => {
-            examine_images(alloc, command, images, names, &mut session.out)
+        Command::Array(command) => {
+            with_array(session, command, bitmap, images, names, &mut notices)
         }
-        // The others open an array, but for `scan`.
-        _ => unreachable!(),
-    }
-}
-
-// Does a command with the array that the images make. No image is touched before the kind of a bitmap is accepted.
-fn open_array<
-    I: Images,
-    T: Threads + Wait + Sync,
-    R: Source + Drop,
-    S: Sink + Drop,
-    W: ReadWatch + Sync,
-    A: Asker + Drop,
->(
-    session: &mut Session<'_, T, R, S, W, A>,
-    command: Command<'_>,
-    bitmap: Option<&str>,
-    images: &mut I,
-    names: &[&str],
-    notices: &mut Notices,
-) -> Result<(), CommandFault>
-    requires opens { opens_array (ask_of command) ≡ true }
-    ensures gives { OpensWithBitmap I.Images I.Dev.Device R.Source S.Sink A.Asker
-        (option_map (λ s. s.now) bitmap.entry) (ask_of command.entry) (texts names.now)
-        images.old images.new (told_of session.old notices.old) (told_of session.new notices.new) result }
-    ensures flushed { IfOk result (λ _. S.is_flushed session.new.out) }
-{
-    let chunk = chunk_in_memory(bitmap)?;
-    with_array(session, command, chunk, images, names, notices)
+    };
+    show_if_refused(session.alloc, &outcome, command, names, &mut session.out);
+    let gaps = &session.gaps;
+    tell_outcome(&outcome, command, names, &notices, gaps, audience, err);
+    outcome_status(&outcome, command, session.mismatched)
 }
 
 // Makes an array. No image is touched before the options are accepted.

@@ -11,6 +11,9 @@ pub mod RebuildCounts
 pub mod RebuildPending
 pub mod Rebuilt
 pub mod Resynced
+pub mod SalvageCounts
+pub mod SalvagePending
+pub mod Salvaged
 pub mod StoppedAfter
 pub mod Wrapped
 pub mod WriteKeepsChunks

@@ -12,7 +12,7 @@ use Rattle.md_write.specs.Writing.{RefusesWrite, Writes}
 use Rattle.md_commands.specs.declared.fault.CommandFault.{CommandFault}
 use Rattle.md_commands.specs.declared.fault.CommandFault.TheVariants.{BadLength, InputFault, Resync, Write}
 use Rattle.md_commands.specs.declared.source.Source.{Ghosts}
-use Rattle.md_commands.specs.WritingPieces.{BeginsPieces, CopiesPiece, FailsToTakePiece, HasWritten, IsReadyForPieces, RefusesPieces, RefusesReadying, RefusesToCopyPiece, TakesFront, TakesPiece, WritesFront, WritesInPieces, WritesPieces, most_at_once, sectors_at_once}
+use Rattle.md_commands.specs.WritingPieces.{BeginsPieces, FailsToTakePiece, HasWritten, IsReadyForPieces, RefusesPieces, RefusesReadying, TakesFront, TakesPiece, WritesFront, WritesInPieces, WritesPieces, most_at_once, sectors_at_once}
 use Rattle.md_commands.proofs.PiecesMarked.{marked_more}
 use Rattle.md_commands.proofs.PiecesTaken.{gives_both}
 use Rattle.md_commands.proofs.WriteKeepsChunks.{range_stays, writes_keep_chunks}
@@ -79,12 +79,6 @@ pieces_more sector left (p ∷ pieces) piece old mid new h long writes =
   where
     multiple : (n : ℕ) → (512 * n) % 512 ≡ 0
     multiple n = omega arith
-
--- a piece is not taken, and so not copied
-pub not_copied : {I : Type 0} (i : Ghosts I) (sector : ℕ) (is_last : Bool) (long : ℕ) (old : MirrorView) (input rest : I) (fault : CommandFault)
-    → FailsToTakePiece i is_last long input rest fault → RefusesToCopyPiece i sector is_last long old old input rest fault
-not_copied i sector is_last long old input rest (Write fault) h = absurd h
-not_copied i sector is_last long old input rest fault h = (h, refl)
 
 module _ {I : Type 0} (i : Ghosts I) (sector len : ℕ) where
   -- so many sectors of the input are written, one at least
@@ -179,24 +173,24 @@ module _ {I : Type 0} (i : Ghosts I) (sector len : ℕ) (whole : len % 512 ≡ 0
               (marked_more front.ready.array mid.array sector done n new.array.marks some more so_far.cut first next);
         }
 
-    pub written_more : (new : MirrorView) (rest : I) (piece : List ℕ) → length piece ≡ 512 * n → CopiesPiece i (sector + done) is_last mid new between rest piece
+    pub written_more : (new : MirrorView) (rest : I) (piece : List ℕ) → length piece ≡ 512 * n → TakesPiece i is_last between rest piece → Writes (sector + done) piece mid new
         → WrittenSoFar i sector len (done + n) old new input rest
     unfolding front_more
-    written_more new rest piece long copies = record {
+    written_more new rest piece long takes writes = record {
       some = let some = so_far.some in omega arith;
       bytes = b ++ piece;
       many = let many = so_far.many in length-append b piece ∙ omega arith;
-      front = front_more new piece long copies.writes;
-      takes = takes_more rest piece long copies.takes;
-      range = range_stays mid.array new.array sector (len / 512) (writes_keep_chunks (sector + done) piece mid new copies.writes) so_far.range;
-      cut = writes_keep_chunks (sector + done) piece mid new copies.writes ∙ so_far.cut;
+      front = front_more new piece long writes;
+      takes = takes_more rest piece long takes;
+      range = range_stays mid.array new.array sector (len / 512) (writes_keep_chunks (sector + done) piece mid new writes) so_far.range;
+      cut = writes_keep_chunks (sector + done) piece mid new writes ∙ so_far.cut;
     }
 
-    stands : (new : MirrorView) → new ≡ mid → HasWritten sector (len / 512) done b old new
-    stands new same = record {
+    stands : HasWritten sector (len / 512) done b old mid
+    stands = record {
       many = so_far.many;
       none = λ none. let some = so_far.some in absurd (omega arith);
-      some = λ _. subst (λ (v : MirrorView). WritesFront sector (len / 512) b old v) (sym same) so_far.front;
+      some = λ _. so_far.front;
     }
 
     -- the array has its sectors
@@ -206,12 +200,12 @@ module _ {I : Type 0} (i : Ghosts I) (sector len : ℕ) (whole : len % 512 ≡ 0
       inside = let inside = so_far.range.inside in let few = fits in omega arith;
     }
 
-    unwritten : (new : MirrorView) (rest : I) (piece : List ℕ) → length piece ≡ 512 * n → TakesPiece i is_last between rest piece → (fault : BeginFault)
+    pub not_written_later : (new : MirrorView) (rest : I) (piece : List ℕ) → length piece ≡ 512 * n → TakesPiece i is_last between rest piece → (fault : BeginFault)
         → RefusesWrite (sector + done) piece mid new fault → RefusesPieces i sector len done old new input rest (Write fault)
-    unwritten new rest piece long takes begin.OutOfRange r =
+    not_written_later new rest piece long takes begin.OutOfRange r =
         let sectors : length piece / 512 ≡ n = omega arith in
         absurd (r.reason.out (subst (λ (m : ℕ). IsInRange mid.array (sector + done) m) (sym sectors) part_in_range))
-    unwritten new rest piece long takes fault r = record {
+    not_written_later new rest piece long takes fault r = record {
       bytes = b;
       many = so_far.many;
       mid = mid;
@@ -222,38 +216,36 @@ module _ {I : Type 0} (i : Ghosts I) (sector len : ℕ) (whole : len % 512 ≡ 0
       refused = r;
     }
 
-    pub refused_later : (new : MirrorView) (rest : I) (fault : CommandFault) → RefusesToCopyPiece i (sector + done) is_last (512 * n) mid new between rest fault
-        → RefusesPieces i sector len done old new input rest fault
-    refused_later new rest (Write fault) h = unwritten new rest h.piece h.many h.takes fault h.refused
-    refused_later new rest InputFault h = record {
+    pub not_taken_later : (rest : I) (fault : CommandFault) → FailsToTakePiece i is_last (512 * n) between rest fault → RefusesPieces i sector len done old mid input rest fault
+    not_taken_later rest InputFault h = record {
       bytes = b;
-      stands = stands new h.1;
+      stands = stands;
       unfinished = λ _. within;
-      piece = h.0.bytes;
-      few = subst (λ (m : ℕ). length h.0.bytes ≤ 512 * m) is h.0.few;
-      taken = Consumes-trans (i.remaining input) (i.remaining between) (i.remaining rest) b h.0.bytes so_far.takes.gives.consumes h.0.taken;
-      has_failed = h.0.has_failed;
+      piece = h.bytes;
+      few = subst (λ (m : ℕ). length h.bytes ≤ 512 * m) is h.few;
+      taken = Consumes-trans (i.remaining input) (i.remaining between) (i.remaining rest) b h.bytes so_far.takes.gives.consumes h.taken;
+      has_failed = h.has_failed;
     }
-    refused_later new rest BadLength h =
+    not_taken_later rest BadLength h =
         let many = so_far.many in
         let few = fits in
-        let joined = length-append b h.0.bytes in
+        let joined = length-append b h.bytes in
         record {
           bytes = b;
-          stands = stands new h.1;
+          stands = stands;
           unfinished = λ _. within;
-          piece = h.0.bytes;
+          piece = h.bytes;
           few = ⊎_elim
-              (λ (early : (length h.0.bytes < 512 * n) × IsAtEnd (i.remaining rest)). let short = early.0 in few_of (length h.0.bytes) (omega arith))
-              (λ (late : (is_last ≡ true) × (length h.0.bytes ≡ 512 * n + 1)). let one = late.1 in few_of (length h.0.bytes) (omega arith))
-              h.0.other;
-          gives = gives_both i input between rest b h.0.bytes so_far.takes.gives h.0.gives;
+              (λ (early : (length h.bytes < 512 * n) × IsAtEnd (i.remaining rest)). let short = early.0 in few_of (length h.bytes) (omega arith))
+              (λ (late : (is_last ≡ true) × (length h.bytes ≡ 512 * n + 1)). let one = late.1 in few_of (length h.bytes) (omega arith))
+              h.other;
+          gives = gives_both i input between rest b h.bytes so_far.takes.gives h.gives;
           other = ⊎_elim
-              (λ (early : (length h.0.bytes < 512 * n) × IsAtEnd (i.remaining rest)). let short = early.0 in inl (omega arith, early.1))
-              (λ (late : (is_last ≡ true) × (length h.0.bytes ≡ 512 * n + 1)). let all = only late.0 in let one = late.1 in inr (omega arith))
-              h.0.other;
+              (λ (early : (length h.bytes < 512 * n) × IsAtEnd (i.remaining rest)). let short = early.0 in inl (omega arith, early.1))
+              (λ (late : (is_last ≡ true) × (length h.bytes ≡ 512 * n + 1)). let all = only late.0 in let one = late.1 in inr (omega arith))
+              h.other;
         }
-    refused_later new rest fault h = absurd h.0
+    not_taken_later rest fault h = absurd h
 
   -- ---- the first piece, of so many bytes
   module _ (old : MirrorView) (input : I) (long : ℕ) (is : long ≡ 512 * sectors_at_once sector (len / 512)) (is_last : Bool) (last : long ≡ len → is_last ≡ true) (only : is_last ≡ true → long ≡ len) where

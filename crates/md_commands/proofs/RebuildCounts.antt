@@ -38,13 +38,13 @@ use Rattle.md_commands.proofs.DeviceCounts.{AsMany, KeepsMembers, fails_after, h
 storing_keeps : KeepsMembers IsStoring
 storing_keeps = record { removes = λ k of. of; adds = λ d left of. of; re_adds = λ own offset device left of. of; enrols = λ k role listed of. of }
 
-gone_on : (old new : MirrorView) → GoesOn only_others only_others IsStoring old new → AsMany old new
+pub gone_on : (old new : MirrorView) → GoesOn only_others only_others IsStoring old new → AsMany old new
 gone_on old new goes = led IsStoring storing_keeps goes.events None old new nothing nothing goes.steps (goes.leads None nothing (none_in_flight old.array))
 
 halted_after : (old new : MirrorView) → HaltsUntilDone old new → AsMany old new
 halted_after old new h = halts h.failing h.mid new nothing (h.halts nothing) ∙ gone_on old h.mid h.goes
 
-settled : (old new : MirrorView) → StoresUntilDone old new → AsMany old new
+pub settled : (old new : MirrorView) → StoresUntilDone old new → AsMany old new
 settled old new s = ⊎_elim (λ all. gone_on old new all.goes) (λ h. halted_after old new h) s
 
 admitted : (k : ℕ) (old new : MirrorView) → AdmitsAfter k old new → AsMany old new
@@ -53,18 +53,18 @@ admitted k old new a = a.admits.disks.tried.as_many ∙ gone_on old a.stored a.f
 admitted_first : (k : ℕ) (old ready : MirrorView) → AdmitsFirst k old ready → AsMany old ready
 admitted_first k old ready a = gone_on a.admitted ready a.then.stores.goes ∙ admitted k old a.admitted a.after
 
-lowered : (k : ℕ) (none : Bitmap) (old mid : MirrorView) → LowersTarget k none old mid → AsMany old mid
+pub lowered : (k : ℕ) (none : Bitmap) (old mid : MirrorView) → LowersTarget k none old mid → AsMany old mid
 lowered k none old mid h = ⊎_elim (λ l. ap length l.lowers.disks) (λ is. same old mid is.0) h
 
-begun : (k : ℕ) (old ready : MirrorView) (none : Bitmap) → BeginsRebuild k old ready none → AsMany old ready
+pub begun : (k : ℕ) (old ready : MirrorView) (none : Bitmap) → BeginsRebuild k old ready none → AsMany old ready
 begun k old ready none b =
     ⊎_elim (λ r. gone_on b.lowered ready r.1.stores.goes) (λ a. admitted_first k b.lowered ready a.1) b.first ∙ lowered k none old b.lowered b.lowers
 
-stopped_at : (k j : ℕ) (old new : MirrorView) → EndsAtOther k j old new → AsMany old new
+pub stopped_at : (k j : ℕ) (old new : MirrorView) → EndsAtOther k j old new → AsMany old new
 stopped_at k j old new s =
     ⊎_elim (λ lost. gone_on old new lost.loses.goes) (λ at. halts at.failing at.mid new nothing (at.halts nothing) ∙ gone_on old at.mid at.stores.goes) s.ends
 
-stopped_admitted : (k j : ℕ) (old new : MirrorView) → EndsAdmitted k j old new → AsMany old new
+pub stopped_admitted : (k j : ℕ) (old new : MirrorView) → EndsAdmitted k j old new → AsMany old new
 stopped_admitted k j old new s = stopped_at k j s.admitted new s.ends ∙ admitted k old s.admitted s.after
 
 -- ---- passes
@@ -76,7 +76,7 @@ stretched k (round ∷ rounds) slots left before after old new h =
 in_part : (k : ℕ) (chunks : List ℕ) (before after : Bitmap) (old new : MirrorView) → MakesPart k chunks before after old new → AsMany old new
 in_part k chunks before after old new p = stretched k p.rounds (slots_of_pass p.pass) p.left before after old new p.stretches
 
-recorded : (k : ℕ) (chunks : List ℕ) (p : PassView) (before after : Bitmap) (old new : MirrorView) → RecordsPass k chunks p before after old new → AsMany old new
+pub recorded : (k : ℕ) (chunks : List ℕ) (p : PassView) (before after : Bitmap) (old new : MirrorView) → RecordsPass k chunks p before after old new → AsMany old new
 recorded k chunks p before after old new r = stretched k r.stretches.rounds (slots_of_pass p) [] before after old new r.stretches.all
 
 listed : (k : ℕ) (passes : List PassView) (chunks left : List ℕ) (before after : Bitmap) (old new : MirrorView)
@@ -95,13 +95,13 @@ between : (k : ℕ) (m : MemberView) (before : Bitmap) (old new : MirrorView) (W
 between k m before old new Why after e =
     after e.left e.copied e.now e.why ∙ listed k e.passes (missing_chunks old.array m) e.left before e.copied old e.now e.passed
 
-broken_off : (k : ℕ) (chunks : List ℕ) (before : Bitmap) (old new : MirrorView) → BreaksOffPass k chunks before old new → AsMany old new
+pub broken_off : (k : ℕ) (chunks : List ℕ) (before : Bitmap) (old new : MirrorView) → BreaksOffPass k chunks before old new → AsMany old new
 broken_off k chunks before old new b = b.why.breaks.filling.as_many ∙ in_part k chunks before b.copied old b.begun b.part
 
-unrecorded : (k : ℕ) (chunks : List ℕ) (before : Bitmap) (old new : MirrorView) → FailsRecording k chunks before old new → AsMany old new
+pub unrecorded : (k : ℕ) (chunks : List ℕ) (before : Bitmap) (old new : MirrorView) → FailsRecording k chunks before old new → AsMany old new
 unrecorded k chunks before old new f = f.why.fails.disks.tried.as_many ∙ (f.why.makes.copies.filling.as_many ∙ in_part k chunks before f.copied old f.begun f.part)
 
-lacks_in_pass : (k : ℕ) (chunks : List ℕ) (before after : Bitmap) (old new : MirrorView) → LacksMemoryToPass k chunks before after old new → AsMany old new
+pub lacks_in_pass : (k : ℕ) (chunks : List ℕ) (before after : Bitmap) (old new : MirrorView) → LacksMemoryToPass k chunks before after old new → AsMany old new
 lacks_in_pass k chunks before after old new h = ⊎_elim (λ is. same old new is.1) (λ part. in_part k chunks before after old new part) h
 
 stopped_listing : (fault : RebuildFault) (failed : List Slot) (old new : MirrorView) → EndsListing failed old new fault → AsMany old new
@@ -162,7 +162,7 @@ loses_target k m none ready new h =
     h
 
 -- how far it came was recorded, or could not be
-left : (k : ℕ) (copied : Bitmap) (stopped new : MirrorView) → RecordsAtEnd k copied stopped new → AsMany stopped new
+pub left : (k : ℕ) (copied : Bitmap) (stopped new : MirrorView) → RecordsAtEnd k copied stopped new → AsMany stopped new
 left k copied stopped new l =
     ⊎_elim (λ h. same stopped new h.1) (λ c. ⊎_elim (λ done. done.disks.tried.as_many) (λ fails. fails.disks.tried.as_many) c) l
 

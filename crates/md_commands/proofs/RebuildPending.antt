@@ -11,13 +11,13 @@ use Rattle.md_copy.specs.Rebuilding.{Rebuilds, RefusesRebuild}
 use Rattle.md_array.proofs.StepLemmas.MakeClean.{none_listed}
 
 -- it stays one of the mirror's
-abbrev KeepsPending : MirrorView → MirrorView → PendingView → Type 0
+abbrev pub KeepsPending : MirrorView → MirrorView → PendingView → Type 0
 KeepsPending old new p = IsPending old.array p → IsPending new.array p
 
-none_pending : (a : ArrayView) (p : PendingView) → IsIdle a → IsPending a p → ⊥
+pub none_pending : (a : ArrayView) (p : PendingView) → IsIdle a → IsPending a p → ⊥
 none_pending a p idle is = none_listed a.requests.entries p.ticket.number (extent_of p) idle.none is.extent
 
-unchanged : (old new : MirrorView) (p : PendingView) → new ≡ old → KeepsPending old new p
+pub unchanged : (old new : MirrorView) (p : PendingView) → new ≡ old → KeepsPending old new p
 unchanged old new p e is = subst (λ (v : MirrorView). IsPending v.array p) (sym e) is
 
 not_rebuilt : (fault : RebuildFault) (k : ℕ) (old new : MirrorView) (p : PendingView) → RefusesRebuild k old new fault → KeepsPending old new p

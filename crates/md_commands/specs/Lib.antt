@@ -24,6 +24,8 @@ pub mod Rebuilding
 pub mod Removing
 -- An array is resynced: by a command of its own, or because another one needs it.
 pub mod Resyncing
+-- The command that rebuilds a member, and lists bad sectors, and not their chunks.
+pub mod Salvaging
 -- What a source gives.
 pub mod Source
 -- The command that stops an array.

@@ -116,26 +116,6 @@ module _ {I : Type 0} (i : Ghosts I) where
   FailsToTakePiece is_last long old new BadLength = EndsElsewhere is_last long old new
   FailsToTakePiece is_last long old new fault = ⊥
 
-  -- A piece is taken, and written from this sector on.
-  pub record CopiesPiece (sector : ℕ) (is_last : Bool) (old new : MirrorView) (input rest : I)
-      (piece : List ℕ) : Type 0 where
-    pub takes : TakesPiece is_last input rest piece
-    pub writes : Writes sector piece old new
-
-  -- it is taken, and not written
-  pub record FailsToCopyPiece (sector : ℕ) (is_last : Bool) (long : ℕ) (old new : MirrorView) (input rest : I)
-      (fault : BeginFault) : Type 0 where
-    pub piece : List ℕ
-    pub many : length piece ≡ long
-    pub takes : TakesPiece is_last input rest piece
-    pub refused : RefusesWrite sector piece old new fault
-
-  abbrev pub RefusesToCopyPiece : ℕ → Bool → ℕ → MirrorView → MirrorView → I → I → CommandFault → Type 0
-  RefusesToCopyPiece sector is_last long old new input rest (Write fault) =
-      FailsToCopyPiece sector is_last long old new input rest fault
-  RefusesToCopyPiece sector is_last long old new input rest fault =
-      FailsToTakePiece is_last long input rest fault × (new ≡ old)
-
   -- ---- all of it
   -- Bytes of an input of so many are taken. Where these are all it is at its end.
   pub record TakesFront (len : ℕ) (input rest : I) (bytes : List ℕ) : Type 0 where

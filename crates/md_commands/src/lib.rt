@@ -26,6 +26,7 @@ mod re_adding;
 mod rebuilding;
 mod removing;
 mod resyncing;
+mod salvaging;
 mod showing;
 mod source;
 mod stopped_object;
@@ -47,6 +48,7 @@ pub use re_adding::{Returning, re_add_device, re_add_device_json};
 pub use rebuilding::{rebuild_member, rebuild_member_json};
 pub use removing::remove_member;
 pub use resyncing::{resync_array, resync_if_needed};
+pub use salvaging::{salvage_member, salvage_member_json};
 pub use showing::{
     show_detail, show_detail_json, show_summary, show_summary_json, show_verbose_detail,
 };

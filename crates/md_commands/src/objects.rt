@@ -5,15 +5,16 @@ ghost use Rattle.md_check.specs.Differences.{IsSized};
 ghost use Rattle.md_report.specs.AsJson.MemberObjects.{texts_of};
 ghost use Rattle.md_commands.specs.Objects.{checked_line, detail_line, planned_line, rebuilt_object_line, summary_line};
 ghost use Rattle.md_commands.specs.Output.{FailsOutput, PutsOut};
+ghost use Rattle.md_commands.specs.Salvaging.{salvaged_object_line};
 
 use crate::fault::CommandFault;
 use md_array::Mirror;
 use md_check::Comparison;
-use md_copy::Rebuilt;
+use md_copy::{Rebuilt, Salvaged};
 use md_device::Device;
 use md_examine::Sink;
 use md_plan::Planned;
-use md_report::{check_json, detail_json, plan_json, rebuilt_json, summary_json};
+use md_report::{check_json, detail_json, plan_json, rebuilt_json, salvaged_json, summary_json};
 
 /// Puts out an array in short, for a command of this name.
 pub(crate) fn put_summary_json<D: Device + Drop, S: Sink>(
@@ -58,6 +59,21 @@ pub(crate) fn put_rebuilt_json<S: Sink>(
 {
     let orphans = rebuilt.orphans.as_slice();
     rebuilt_json(out, member, rebuilt.passes, orphans)?;
+    out.flush()?;
+    Ok(())
+}
+
+/// Puts out what was rebuilt of the member with this index, and which sectors are lost.
+pub(crate) fn put_salvaged_json<S: Sink>(
+    salvaged: &Salvaged,
+    member: u32,
+    out: &mut S,
+) -> Result<(), CommandFault>
+    ensures { MatchResult result
+        (λ _. PutsOut S.Sink out.old out.new (salvaged_object_line member salvaged.now))
+        (FailsOutput S.Sink out.new) }
+{
+    salvaged_json(out, member, &salvaged.lost, &salvaged.listed)?;
     out.flush()?;
     Ok(())
 }

@@ -11,18 +11,19 @@ ghost use Rattle.md_report.specs.VerboseReport.{verbose_text};
 ghost use Rattle.md_report.specs.AsJson.MemberObjects.{texts_of};
 ghost use Rattle.md_commands.specs.Output.{FailsOutput, PutsOut};
 ghost use Rattle.md_commands.specs.Rebuilding.{rebuilt_shown};
+ghost use Rattle.md_commands.specs.Salvaging.{salvaged_shown};
 
 use crate::fault::CommandFault;
 use md_array::Mirror;
 use md_bitmap::Chunks;
 use md_check::Comparison;
-use md_copy::Rebuilt;
+use md_copy::{Rebuilt, Salvaged};
 use md_device::Device;
 use md_examine::{Sink, SinkFault};
 use md_plan::Planned;
 use md_report::{
     check_list_report, check_report, detail, plan_report, rebuilt_line_report, rebuilt_report,
-    summary, verbose_detail,
+    salvaged_line_report, salvaged_report, summary, verbose_detail,
 };
 
 /// Puts out an array in one line.
@@ -111,6 +112,39 @@ fn put_rebuilt_lines<S: Sink>(
     }
     let plans = rebuilt.plans.as_slice();
     rebuilt_report(out, member, rebuilt.passes, plans, orphans)
+}
+
+/// Puts out what was rebuilt and which sectors are lost: the plan of the pass, unless `quiet`, and a line on the member with this
+/// index.
+pub(crate) fn put_salvaged<S: Sink>(
+    salvaged: &Salvaged,
+    member: u32,
+    quiet: bool,
+    out: &mut S,
+) -> Result<(), CommandFault>
+    ensures { MatchResult result
+        (λ _. PutsOut S.Sink out.old out.new (salvaged_shown quiet member salvaged.now))
+        (FailsOutput S.Sink out.new) }
+{
+    put_salvaged_lines(salvaged, member, quiet, out)?;
+    out.flush()?;
+    Ok(())
+}
+
+fn put_salvaged_lines<S: Sink>(
+    salvaged: &Salvaged,
+    member: u32,
+    quiet: bool,
+    out: &mut S,
+) -> Result<(), SinkFault>
+    ensures { PutsOrFails S.contents S.failed out.old out.new
+        (salvaged_shown quiet member salvaged.now) result }
+{
+    let (lost, listed) = (&salvaged.lost, &salvaged.listed);
+    if !quiet {
+        return salvaged_report(out, member, &salvaged.planned, lost, listed);
+    }
+    salvaged_line_report(out, member, lost, listed)
 }
 
 /// Puts out in how many chunks members in sync differ, and gives that.

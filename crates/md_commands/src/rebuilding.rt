@@ -129,8 +129,8 @@ pub(crate) fn rebuild_watched<D: Device + Drop + Send, W: Watch + Sync, T: Threa
     rebuild(rt, alloc, mirror, k, watch)
 }
 
-// Tells the watch that the rebuild of member k is taken up, where it is: it lacks so many chunks, of which this is the first.
-fn tell_if_taken_up<D: Device + Drop, W: Watch>(
+/// Tells the watch that the rebuild of member k is taken up, where it is: it lacks so many chunks, of which this is the first.
+pub(crate) fn tell_if_taken_up<D: Device + Drop, W: Watch>(
     mirror: &Mirror<D>,
     k: usize,
     missing: u32,
@@ -149,8 +149,8 @@ fn tell_if_taken_up<D: Device + Drop, W: Watch>(
     }
 }
 
-// How many chunks member k lacks, and the first of them. It takes no memory.
-fn chunks_lacked<D: Device + Drop>(mirror: &Mirror<D>, k: usize) -> (u32, Option<u32>)
+/// How many chunks member k lacks, and the first of them. It takes no memory.
+pub(crate) fn chunks_lacked<D: Device + Drop>(mirror: &Mirror<D>, k: usize) -> (u32, Option<u32>)
     requires member { k < length mirror.now.array.members }
     requires sound { IsConsistent mirror.now }
     ensures { (m : MemberView) → IsMember mirror.now.array k m

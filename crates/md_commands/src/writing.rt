@@ -3,8 +3,8 @@ ghost use Rattle.std.specs.Prelude.{◌≡◌, ◌%◌, IfOk, MatchResult, None,
 ghost use Rattle.md_inflight.specs.Requests.Pending.{PendingView};
 ghost use Rattle.md_state.specs.Requests.{IsPending};
 ghost use Rattle.md_array.specs.Consistency.{IsConsistent};
-ghost use Rattle.md_commands.specs.ToldLength.{MayBeRead, known_length};
-ghost use Rattle.md_commands.specs.Writing.{IsToldOfLength, RefusesBytes, RefusesInMemory, RefusesToWrite, RefusesWriting, WritesArray, WritesInput, WritesReadied};
+ghost use Rattle.md_commands.specs.ToldLength.{known_length};
+ghost use Rattle.md_commands.specs.Writing.{IsToldOfLength, RefusesBytes, RefusesInMemory, RefusesToWrite, WritesArray, WritesInput, WritesReadied};
 ghost use Rattle.md_commands.specs.WritingPieces.{IsToldOfFront};
 
 use crate::fault::CommandFault;
@@ -67,34 +67,12 @@ pub fn write_array<D: Device + Drop, I: Source, W: Watch, S: Sink>(
         return Err(CommandFault::Write(BeginFault::Halted));
     }
     let len = known_length(mirror, sector, count, input.bytes_left())?;
-    write_input(alloc, mirror, sector, len, input, watch)?;
+    match len {
+        Some(len) => write_in_pieces(alloc, mirror, sector, len, input, watch)?,
+        None => write_at_once(alloc, mirror, sector, input)?,
+    }
     stop(mirror).map_err(CommandFault::Stop)?;
     put_summary(mirror, out)
-}
-
-// Writes all of an input to the array: piece by piece where its length is known.
-fn write_input<D: Device + Drop, I: Source, W: Watch>(
-    alloc: Global,
-    mirror: &mut Mirror<D>,
-    sector: u64,
-    len: Option<u64>,
-    input: &mut I,
-    watch: &W,
-) -> Result<(), CommandFault>
-    requires may { MayBeRead mirror.old.array sector len }
-    requires sound { IsConsistent mirror.old }
-    ensures gives { (written : ℕ) × IsToldOfFront W.has_written watch.now written
-        × MatchResult result
-        (λ _. WritesInput I.Source sector mirror.old mirror.new input.old input.new len)
-        (RefusesWriting I.Source sector mirror.old mirror.new input.old input.new len written) }
-    ensures told { IfOk result (λ _. IsToldOfLength W.writes W.has_written watch.now len) }
-    ensures sound { IsConsistent mirror.new }
-    ensures pending { (p : PendingView) → IsPending mirror.old.array p → IsPending mirror.new.array p }
-{
-    match len {
-        Some(len) => write_in_pieces(alloc, mirror, sector, len, input, watch),
-        None => write_at_once(alloc, mirror, sector, input),
-    }
 }
 
 // Reads an input into memory, and writes its bytes to the array.

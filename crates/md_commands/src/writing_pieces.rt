@@ -6,7 +6,7 @@ ghost use Rattle.md_state.specs.Steps.Begin.{IsInRange};
 ghost use Rattle.md_array.specs.Consistency.{IsConsistent};
 ghost use Rattle.md_commands.specs.ReadingInput.{FailsAfter};
 ghost use Rattle.md_commands.specs.Source.{Gives};
-ghost use Rattle.md_commands.specs.WritingPieces.{BeginsPieces, CopiesPiece, FailsToEnd, FailsToTakePiece, FillsPieceTo, HasEnded, IsInputFault, IsReadyForPieces, IsToldOfAll, IsToldOfFront, RefusesPieces, RefusesReadying, RefusesToCopyPiece, TakesPiece, WritesInPieces, most_at_once, sectors_at_once};
+ghost use Rattle.md_commands.specs.WritingPieces.{BeginsPieces, FailsToEnd, FailsToTakePiece, FillsPieceTo, HasEnded, IsInputFault, IsReadyForPieces, IsToldOfAll, IsToldOfFront, RefusesPieces, RefusesReadying, TakesPiece, WritesInPieces, most_at_once, sectors_at_once};
 
 use crate::fault::CommandFault;
 use crate::resyncing::resync_if_needed;
@@ -41,32 +41,9 @@ pub(crate) fn write_in_pieces<D: Device + Drop, I: Source, W: Watch>(
     ensures sound { IsConsistent mirror.new }
     ensures pending { (p : PendingView) → IsPending mirror.old.array p → IsPending mirror.new.array p }
 {
-    let mut buffer = room_for_piece(alloc, len / 512)?;
-    write_pieces(alloc, mirror, sector, len, input, watch, &mut buffer)
-}
-
-// Writes an input piece by piece, through a buffer that has room for any of them.
-fn write_pieces<D: Device + Drop, I: Source, W: Watch>(
-    alloc: Global,
-    mirror: &mut Mirror<D>,
-    sector: u64,
-    len: u64,
-    input: &mut I,
-    watch: &W,
-    buffer: &mut [u8],
-) -> Result<(), CommandFault>
-    requires whole { len % 512 ≡ 0 }
-    requires room { length buffer.old ≡ 512 * min (len / 512) most_at_once }
-    requires sound { IsConsistent mirror.old }
-    ensures gives { (written : ℕ) × IsToldOfFront W.has_written watch.now written
-        × MatchResult result
-        (λ _. WritesInPieces I.Source sector len mirror.old mirror.new input.old input.new)
-        (RefusesPieces I.Source sector len written mirror.old mirror.new input.old input.new) }
-    ensures told { IfOk result (λ _. IsToldOfAll W.writes W.has_written watch.now (len / 512)) }
-    ensures sound { IsConsistent mirror.new }
-    ensures pending { (p : PendingView) → IsPending mirror.old.array p → IsPending mirror.new.array p }
-{
     let count = len / 512;
+    let mut room = room_for_piece(alloc, count)?;
+    let buffer = room.as_mut_slice();
     let mut written = sectors_at_once(sector, count);
     let front = &mut buffer[..512 * written as usize];
     begin_pieces(alloc, mirror, sector, len, input, watch, front)?;
@@ -76,7 +53,8 @@ fn write_pieces<D: Device + Drop, I: Source, W: Watch>(
         let sectors = sectors_at_once(at, count - written);
         let is_last = written + sectors == count;
         let piece = &mut buffer[..512 * sectors as usize];
-        copy_piece(mirror, at, input, piece, is_last)?;
+        take_piece(input, piece, is_last)?;
+        write(mirror, at, piece).map_err(CommandFault::Write)?;
         written += sectors;
         watch.wrote(written);
     }
@@ -145,28 +123,6 @@ fn make_ready<D: Device + Drop>(
     if !is_in_range(mirror, sector, count) {
         return Err(CommandFault::Write(BeginFault::OutOfRange));
     }
-    Ok(())
-}
-
-// Takes a piece of the input, and writes it.
-fn copy_piece<D: Device + Drop, I: Source>(
-    mirror: &mut Mirror<D>,
-    sector: u64,
-    input: &mut I,
-    piece: &mut [u8],
-    is_last: bool,
-) -> Result<(), CommandFault>
-    requires whole { length piece.old % 512 ≡ 0 }
-    requires sound { IsConsistent mirror.old }
-    ensures gives { MatchResult result
-        (λ _. CopiesPiece I.Source sector is_last mirror.old mirror.new input.old input.new piece.new)
-        (RefusesToCopyPiece I.Source sector is_last (length piece.old) mirror.old mirror.new
-        input.old input.new) }
-    ensures sound { IsConsistent mirror.new }
-    ensures pending { (p : PendingView) → IsPending mirror.old.array p → IsPending mirror.new.array p }
-{
-    take_piece(input, piece, is_last)?;
-    write(mirror, sector, piece).map_err(CommandFault::Write)?;
     Ok(())
 }
 

@@ -45,13 +45,6 @@ use Rattle.md_commands.specs.Output.{PutsOut}
 use Rattle.md_commands.specs.declared.fault.CommandFault.{CommandFault}
 use Rattle.md_commands.specs.declared.fault.CommandFault.TheVariants.{BadImage, Member, NoBitmap, OutputFault}
 
--- whether a command shows one image
-abbrev pub examines_image : Ask → Bool
-examines_image (examines form) = true
-examines_image (examines_bitmap form) = true
-examines_image (examines_badblocks form) = true
-examines_image _ = false
-
 -- ---- By which text an image is shown.
 -- what is read and taken, as a JSON object or as text
 abbrev pub superblock_shown : Bool → SuperblockValue → List ℕ

@@ -1,8 +1,8 @@
 // The commands that show one image.
 ghost use Rattle.std.specs.Prelude.{◌≡◌, ◌≢◌, ℕ, Err, IfOk, List, [], ◌∷◌, length, map, true};
 ghost use Rattle.md_members.specs.Reading.{CallFails};
-ghost use Rattle.md_words.specs.Asks.{ask_of};
-ghost use Rattle.md_examine_commands.specs.Examining.{Examines, ExaminesOne, IsBadblocksRefusal, IsBadblocksText, IsBitmapRefusal, IsBitmapText, IsSuperblockRefusal, IsSuperblockText, Reports, examines_image};
+ghost use Rattle.md_words.specs.Asks.{image_ask};
+ghost use Rattle.md_examine_commands.specs.Examining.{Examines, ExaminesOne, IsBadblocksRefusal, IsBadblocksText, IsBitmapRefusal, IsBitmapText, IsSuperblockRefusal, IsSuperblockText, Reports};
 
 use crate::raw_examining::{show_raw_badblocks, show_raw_bitmap, show_raw_superblock};
 use crate::reports::{put_badblocks, put_bitmap, put_superblock};
@@ -11,7 +11,7 @@ use md_device::Device;
 use md_examine::Sink;
 use md_images::{Access, ImageRefusal, Images};
 use md_members::{read_member, read_super};
-use md_words::{Command, ImageForm};
+use md_words::{ImageCommand, ImageForm};
 use std::alloc::Global;
 
 // Shows the superblock.
@@ -73,52 +73,49 @@ fn show_badblocks<D: Device, S: Sink>(
 
 fn show<D: Device, S: Sink>(
     alloc: Global,
-    command: Command<'_>,
+    command: ImageCommand,
     device: &mut D,
     out: &mut S,
 ) -> Result<(), CommandFault>
-    requires one { examines_image (ask_of command) ≡ true }
     ensures kept { D.content device.new ≡ D.content device.old }
     ensures honest { D.honest device.new ≡ D.honest device.old }
-    ensures gives { Examines (ask_of command.entry) S.Sink (D.content device.old) (D.honest device.old)
+    ensures gives { Examines (image_ask command) S.Sink (D.content device.old) (D.honest device.old)
         (CallFails D.Device device.old device.new) out.old out.new result }
 {
     match command {
-        Command::Examine { form } => match form {
+        ImageCommand::Examine { form } => match form {
             ImageForm::Raw => show_raw_superblock(false, device, out),
             ImageForm::RawJson => show_raw_superblock(true, device, out),
             ImageForm::Text => show_superblock(alloc, false, device, out),
             ImageForm::Json => show_superblock(alloc, true, device, out),
         },
-        Command::ExamineBitmap { form } => match form {
+        ImageCommand::ExamineBitmap { form } => match form {
             ImageForm::Raw => show_raw_bitmap(false, device, out),
             ImageForm::RawJson => show_raw_bitmap(true, device, out),
             ImageForm::Text => show_bitmap(alloc, false, device, out),
             ImageForm::Json => show_bitmap(alloc, true, device, out),
         },
-        Command::ExamineBadblocks { form } => match form {
+        ImageCommand::ExamineBadblocks { form } => match form {
             ImageForm::Raw => show_raw_badblocks(false, device, out),
             ImageForm::RawJson => show_raw_badblocks(true, device, out),
             ImageForm::Text => show_badblocks(alloc, false, device, out),
             ImageForm::Json => show_badblocks(alloc, true, device, out),
         },
-        _ => unreachable!(),
     }
 }
 
 /// Writes the report on the one image that is named, which is only looked at.
 pub fn examine_images<I: Images, S: Sink>(
     alloc: Global,
-    command: Command<'_>,
+    command: ImageCommand,
     images: &mut I,
     names: &[&str],
     out: &mut S,
 ) -> Result<(), CommandFault>
-    requires one { examines_image (ask_of command) ≡ true }
     ensures count { length names.now ≢ 1 →
         (result ≡ Err CommandFault.BadCount) × (images.new ≡ images.old) × (out.new ≡ out.old) }
     ensures one { (name : List ℕ) → map (λ s. s.now) names.now ≡ name ∷ [] →
-        ExaminesOne (ask_of command.entry) I.Dev.Device S.Sink (I.known images.old)
+        ExaminesOne (image_ask command) I.Dev.Device S.Sink (I.known images.old)
         (I.device_at images.old) (I.device_at images.new) name out.old out.new result }
     ensures looked { I.known images.old ≡ true →
         (n : List ℕ) → I.asked images.new n ≡ I.asked images.old n }

@@ -9,7 +9,7 @@
 //! `scan/`: superblocks are read one after another (`look_at_each`), and a report on them is put out.
 //!
 //! ```
-//! let command = Command::ExamineBadblocks { form };
+//! let command = ImageCommand::ExamineBadblocks { form };
 //! examine_images(alloc, command, &mut images, &["sda.img"], &mut out)?;
 //! ```
 #![tactic(auto)]

@@ -7,6 +7,7 @@ use Rattle.md_assembly.specs.declared.state.MemberState.{MemberState}
 use Rattle.md_assembly.specs.States.{is_spare}
 use Rattle.md_notices.specs.Noticing.{WereMarkedAtOpening, AreUnnamed, all_dropped, all_parted, all_states, in_sync_count}
 use Rattle.md_notices.specs.ListedSectors.{all_sector_counts, all_longer_lists}
+use Rattle.md_notices.specs.LostSectors.{lost_in}
 use Rattle.md_notices.specs.Parting.{IsFirstInSync, NoneInSync}
 use Rattle.md_words.specs.Asks.{Ask, failing_of, leaving_of, overwritten_by, tells_parted}
 use Rattle.md_words.specs.declared.overwritten.Overwritten.{Overwritten}
@@ -28,6 +29,7 @@ nothing = record {
   listed = replicate 64 0;
   dropped = replicate 64 false;
   more_listed = replicate 64 None;
+  lost = record { count = 0; first = None };
   in_sync = 0;
   raid_disks = 0;
   held = Nothing;
@@ -63,6 +65,7 @@ abbrev pub with_dropped : Ask → ArrayView → Bool → Notices → Notices
 with_dropped ask a left n = record n {
   dropped = all_dropped n.states a.members (asked_of ask left);
   more_listed = all_longer_lists n.listed a.members (asked_of ask left);
+  lost = lost_in a;
   in_sync = in_sync_count a.members;
   raid_disks = a.shared.raid_disks;
 }

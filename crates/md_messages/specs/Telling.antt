@@ -1,7 +1,7 @@
 -- What standard error is told of what was noticed: which lines, in which order. The names are those of the members' images, in their
 -- order, and a line of a member has its image's name. The lines themselves are those of `md_notices`.
-use Rattle.std.specs.Prelude.{◌≡◌, ◌⊎◌, ℕ, ◌==◌, not, Bool, true, false, List, [], ◌++◌, length, map, take, Option, Some, None, Result, Ok, Err, slice_get, get_or, count_by, if◌then◌else◌}
-use Rattle.std.specs.List.{flat_map, range_with_len}
+use Rattle.std.specs.Prelude.{◌≡◌, ◌⊎◌, ℕ, ◌==◌, not, Bool, true, false, List, [], ◌++◌, length, map, take, Option, Some, None, is_some, Result, Ok, Err, slice_get, get_or, count_by, if◌then◌else◌}
+use Rattle.std.specs.List.{flat_map, list_any, range_with_len}
 use Rattle.std.specs.Borrow.{Bor}
 use Rattle.clap.specs.Words.{Text}
 use Rattle.md_assembly.specs.declared.state.MemberState.{MemberState}
@@ -13,9 +13,11 @@ use Rattle.md_notices.specs.declared.held.held.Held.{Held}
 use Rattle.md_notices.specs.declared.held.held.Held.TheVariants.{Nothing, Unseen, Unread, Member, Signed}
 use Rattle.md_notices.specs.Held.Holding.{is_unseen}
 use Rattle.md_images.specs.Taking.{is_missing_word}
-use Rattle.md_notices.specs.Lines.{dropped_text, forgotten_text, held_text, lost_text, marked_line_text, parted_text, identity_text, listed_text, uncompared_text, unnamed_text, unread_text, unseen_text}
+use Rattle.md_notices.specs.Lines.{chunks_lost_text, dropped_text, forgotten_text, held_text, lost_text, marked_line_text, parted_text, identity_text, listed_text, uncompared_text, ungiven_text, unnamed_text, unread_text, unseen_text}
 use Rattle.md_notices.specs.Signatures.Texts.{text_of}
-use Rattle.md_words.specs.Asks.{Ask, adds, checks, device_to_add, overwritten_by}
+use Rattle.md_words.specs.Asks.{Ask, adds, checks, device_to_add, loss_of, overwritten_by}
+use Rattle.md_words.specs.declared.loss.Loss.{Loss}
+use Rattle.md_words.specs.declared.loss.Loss.TheVariants.{Chunks, Sectors}
 use Rattle.md_words.specs.declared.overwritten.Overwritten.{Overwritten}
 use Rattle.md_words.specs.declared.overwritten.Overwritten.TheVariants as overwritten
 use Rattle.md_messages.specs.FaultText.Commands.{refusal_line}
@@ -178,6 +180,22 @@ noticed_text audience ask names n =
     ++ parted_lines (asked_member (overwritten_by ask) (asks_first ask n)) names n ++ unnamed_lines n ++
     dropped_lines names n
 
+abbrev pub lists_more : Notices → Bool
+lists_more n = list_any (λ count. is_some count) n.more_listed
+
+-- Where a rebuild is done: which sectors of the array no member in sync gives. One that loses chunks says so only where some member
+-- lists more sectors as bad than before, and says then that chunks need not be lost.
+abbrev pub loss_text : Loss → Notices → List ℕ
+loss_text Sectors n = ungiven_text n.lost
+loss_text Chunks n = if lists_more n then ungiven_text n.lost ++ chunks_lost_text else []
+
+abbrev pub loss_if_some : Option Loss → Notices → List ℕ
+loss_if_some None n = []
+loss_if_some (Some loss) n = loss_text loss n
+
+abbrev pub loss_lines : Ask → Notices → List ℕ
+loss_lines ask n = loss_if_some (loss_of ask) n
+
 -- a check that is done compared nothing, where one member is in sync alone
 abbrev pub uncompared_lines : Ask → List Text → Notices → List ℕ
 uncompared_lines (checks form exit_code readonly) names n = line_of uncompared_text (name_in names n.alone)
@@ -191,8 +209,8 @@ lost_lines audience ask = []
 -- All that standard error is told of a command that is done.
 unfoldable pub told_text : Audience → Ask → List Text → Notices → List ℕ
 told_text audience ask names n =
-    noticed_text audience ask names n ++ listed_lines ask names n ++ uncompared_lines ask names n
-    ++ lost_lines audience ask
+    noticed_text audience ask names n ++ listed_lines ask names n ++ loss_lines ask n
+    ++ uncompared_lines ask names n ++ lost_lines audience ask
 
 -- Of a command that is refused it is told too, after the fault and what to do. The image that was to be added has joined where the stop
 -- is refused, or the report fails: they come after it.

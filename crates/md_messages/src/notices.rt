@@ -10,9 +10,9 @@ use md_array::Mirror;
 use md_assembly::MemberState;
 use md_device::Device;
 use md_notices::{
-    Asked, Held, MAX_MEMBERS, MAX_ROLES, first_in_sync, held_on, held_on_each, in_sync_count,
-    is_forgotten, members_dropped, members_listing, members_listing_more, members_marked,
-    members_parted, roles_unnamed, states_of, was_apart,
+    Asked, Held, Lost, MAX_MEMBERS, MAX_ROLES, find_lost, first_in_sync, held_on, held_on_each,
+    in_sync_count, is_forgotten, members_dropped, members_listing, members_listing_more,
+    members_marked, members_parted, roles_unnamed, states_of, was_apart,
 };
 use md_super::Superblock;
 use md_words::{Command, Overwritten};
@@ -21,7 +21,8 @@ use std::alloc::{AllocError, Global};
 /// What is noticed of an array as it is opened, and as a command leaves it, by the places of the images among its
 /// members, and by its roles: on which images marks were stored, and which member is in sync alone; which members were
 /// used without those in sync, of which one is named, and which devices were not named; which members dropped out, and
-/// how many of how many are in sync then; and which list more sectors as bad than before, and how many. It is told after the command: of a refused one it may be nothing but the
+/// how many of how many are in sync then; which list more sectors as bad than before, and how many; and which sectors of
+/// the array no member in sync gives then. It is told after the command: of a refused one it may be nothing but the
 /// fault that is told.
 #[derive(Drop)]
 pub struct Notices {
@@ -34,6 +35,7 @@ pub struct Notices {
     pub listed: [u64; MAX_MEMBERS],
     pub dropped: [bool; MAX_MEMBERS],
     pub more_listed: [Option<u64>; MAX_MEMBERS],
+    pub lost: Lost,
     pub in_sync: usize,
     pub raid_disks: u32,
     pub held: Held,
@@ -56,6 +58,7 @@ impl Notices {
             listed: [0; MAX_MEMBERS],
             dropped: [false; MAX_MEMBERS],
             more_listed: [None; MAX_MEMBERS],
+            lost: Lost::none(),
             in_sync: 0,
             raid_disks: 0,
             held: Held::Nothing,
@@ -106,8 +109,8 @@ impl Notices {
         self.listed = members_listing(mirror);
     }
 
-    /// Notes which members dropped out in a command, which left the array so, and which list more sectors as bad. `has_left` says whether the member left that
-    /// the command is to take out.
+    /// Notes which members dropped out in a command, which left the array so, which list more sectors as bad, and which
+    /// sectors of the array no member in sync gives. `has_left` says whether the member left that the command is to take out.
     pub fn note_dropped<D: Device + Drop>(
         &mut self,
         command: Command<'_>,
@@ -119,6 +122,7 @@ impl Notices {
         let asked = asked_of(command, has_left);
         self.dropped = members_dropped(&self.states, mirror, asked);
         self.more_listed = members_listing_more(&self.listed, mirror, asked);
+        self.lost = find_lost(mirror);
         self.in_sync = in_sync_count(mirror);
         self.raid_disks = mirror.shared().raid_disks;
     }

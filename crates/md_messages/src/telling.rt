@@ -1,8 +1,9 @@
 // What standard error is told of what was noticed. No line takes memory.
-ghost use Rattle.std.specs.Prelude.{◌≡◌, ◌<◌, [], option_map, slice_get, if◌then◌else◌};
+ghost use Rattle.std.specs.Prelude.{◌≡◌, ◌<◌, ◌++◌, [], option_map, slice_get, if◌then◌else◌};
 ghost use Rattle.md_examine.specs.Sink.{PutsOrFails};
+ghost use Rattle.md_notices.specs.Lines.{chunks_lost_text, ungiven_text};
 ghost use Rattle.md_words.specs.Asks.{ask_of, overwritten_by};
-ghost use Rattle.md_messages.specs.Telling.{asked_member, dropped_at, dropped_line, dropped_lines, each_lines, first_by, first_text, first_unless, has_joined, held_line, held_line_of, is_at, listed_text_at, listed_line, listed_lines, member_name, line_of, lost_lines, marked_at, marked_lines, name_in, new_line, noticed_text, parted_at, parted_line, parted_lines, refused_text, returning_line, texts, told_text, uncompared_lines, unnamed_at, unnamed_lines};
+ghost use Rattle.md_messages.specs.Telling.{asked_member, dropped_at, dropped_line, dropped_lines, each_lines, first_by, first_text, first_unless, has_joined, held_line, held_line_of, is_at, listed_text_at, listed_line, listed_lines, member_name, line_of, lists_more, loss_lines, lost_lines, marked_at, marked_lines, name_in, new_line, noticed_text, parted_at, parted_line, parted_lines, refused_text, returning_line, texts, told_text, uncompared_lines, unnamed_at, unnamed_lines};
 ghost use Rattle.md_messages.specs.Holding.{held_each};
 ghost use Rattle.md_messages.specs.Noticed.{asks_first};
 
@@ -13,11 +14,11 @@ use md_commands::CommandFault;
 use md_examine::{Sink, SinkFault};
 use md_images::is_missing;
 use md_notices::{
-    Held, MAX_MEMBERS, MAX_ROLES, dropped_line, forgotten_line, held_line, listed_line, lost_line,
-    marked_line, parted_line, standing_line, uncompared_line, unnamed_line, unread_line,
-    unseen_line,
+    Held, MAX_MEMBERS, MAX_ROLES, chunks_lost_line, dropped_line, forgotten_line, held_line,
+    listed_line, lost_line, marked_line, parted_line, standing_line, uncompared_line, ungiven_line,
+    unnamed_line, unread_line, unseen_line,
 };
-use md_words::{Command, Overwritten};
+use md_words::{ArrayCommand, Command, Loss, Overwritten};
 
 // The name in a place, where there is one.
 fn name_at<'a>(names: &[&'a str], k: usize) -> Option<&'a str>
@@ -254,6 +255,35 @@ fn put_all_listed<S: Sink>(
     Ok(())
 }
 
+// Whether some member lists more sectors as bad than before.
+fn lists_more(notices: &Notices) -> bool
+    ensures { result ≡ lists_more notices.now }
+{
+    notices.more_listed.iter().any(|count| count.is_some())
+}
+
+fn put_chunks_lost<S: Sink>(out: &mut S, notices: &Notices) -> Result<(), SinkFault>
+    ensures { PutsOrFails S.contents S.failed out.old out.new
+        (ungiven_text notices.now.lost ++ chunks_lost_text) result }
+{
+    ungiven_line(out, notices.lost)?;
+    chunks_lost_line(out)?;
+    Ok(())
+}
+
+// Of a rebuild which sectors no member in sync gives. Of one that loses chunks only where some member lists more, and then that chunks
+// need not be lost.
+fn put_loss<S: Sink>(out: &mut S, command: Command<'_>, notices: &Notices) -> Result<(), SinkFault>
+    ensures { PutsOrFails S.contents S.failed out.old out.new
+        (loss_lines (ask_of command.entry) notices.now) result }
+{
+    match command.loss() {
+        Some(Loss::Sectors) => ungiven_line(out, notices.lost),
+        Some(Loss::Chunks) if lists_more(notices) => put_chunks_lost(out, notices),
+        Some(Loss::Chunks) | None => out.put(b""),
+    }
+}
+
 // Of the image that comes back that it was used without those in sync, or that nobody looked at it or could read it.
 fn put_returning<S: Sink>(
     out: &mut S,
@@ -434,7 +464,7 @@ fn put_uncompared<S: Sink>(
     ensures { PutsOrFails S.contents S.failed out.old out.new
         (uncompared_lines (ask_of command.entry) (texts names.now) notices.now) result }
 {
-    let Command::Check { .. } = command else {
+    let Command::Array(ArrayCommand::Check { .. }) = command else {
         return out.put(b"");
     };
     match name_in(names, notices.alone) {
@@ -449,7 +479,9 @@ fn put_lost<S: Sink>(out: &mut S, command: Command<'_>, audience: Audience) -> R
         (lost_lines audience (ask_of command.entry)) result }
 {
     match command {
-        Command::Add { device, .. } if audience.messages.has_advice() => lost_line(out, device),
+        Command::Array(ArrayCommand::Add { device, .. }) if audience.messages.has_advice() => {
+            lost_line(out, device)
+        }
         _ => out.put(b""),
     }
 }
@@ -467,6 +499,7 @@ pub fn put_told<S: Sink>(
 {
     put_noticed(out, notices, command, names, audience)?;
     put_all_listed(out, notices, command, names)?;
+    put_loss(out, command, notices)?;
     put_uncompared(out, notices, command, names)?;
     put_lost(out, command, audience)?;
     Ok(())

@@ -1,3 +1,5 @@
+pub mod LostLists
+pub mod LostRuns
 pub mod Members
 pub mod SectorCounts
 -- Signatures on a device.

@@ -16,3 +16,5 @@ pub mod Signatures
 pub mod Held
 -- How many sectors members list as bad, and which list more than before.
 pub mod ListedSectors
+-- Sectors of an array that no member in sync gives, by their lists.
+pub mod LostSectors

@@ -6,6 +6,7 @@ use Rattle.md_super.specs.declared.superblock.Superblock.{Superblock}
 use Rattle.md_assembly.specs.declared.state.MemberState.{MemberState}
 use Rattle.md_assembly.specs.declared.state.MemberState.TheVariants.{InSync, Recovering, Stale, Spare, Faulty}
 use Rattle.md_assembly.specs.States.{state_of}
+use Rattle.md_notices.specs.declared.lost_sectors.Lost.{Lost}
 
 unfoldable pub parted_text : List ℕ → List ℕ → List ℕ
 parted_text name other =
@@ -28,6 +29,29 @@ why_listed None = codes ": the sectors that are listed as bad in it are now "
 
 unfoldable pub listed_text : List ℕ → Option MemberState → ℕ → List ℕ
 listed_text name was count = codes "mdcli: " ++ shown name ++ (why_listed was ++ decimal count) ++ codes "\n"
+
+-- of so many sectors, and the first of them
+unfoldable pub ungiven_count_text : ℕ → List ℕ
+ungiven_count_text count =
+    codes "mdcli: sectors of the array that no member in sync gives" ++ (codes ": " ++ decimal count)
+
+unfoldable pub first_ungiven_text : ℕ → List ℕ
+first_ungiven_text first = (codes ", the first is " ++ decimal first) ++ codes "\n"
+
+abbrev pub ungiven_sectors_text : ℕ → ℕ → List ℕ
+ungiven_sectors_text count first = ungiven_count_text count ++ first_ungiven_text first
+
+abbrev pub ungiven_if_some : ℕ → Option ℕ → List ℕ
+ungiven_if_some count None = []
+ungiven_if_some count (Some first) = ungiven_sectors_text count first
+
+-- where there are some
+abbrev pub ungiven_text : Lost → List ℕ
+ungiven_text lost = ungiven_if_some lost.count lost.first
+
+abbrev pub chunks_lost_text : List ℕ
+chunks_lost_text =
+    codes "mdcli: of a chunk with bad sectors all are listed; `rebuild --salvage` lists the bad sectors alone\n"
 
 unfoldable pub unnamed_text : ℕ → ℕ → List ℕ
 unnamed_text number role =

@@ -1,8 +1,9 @@
 // The lines that say what was noticed.
 ghost use Rattle.std.specs.Prelude.{◌≡◌};
 ghost use Rattle.md_examine.specs.Sink.{PutsOrFails};
-ghost use Rattle.md_notices.specs.Lines.{dropped_text, forgotten_text, held_text, listed_text, lost_text, marked_line_text, parted_text, uncompared_text, unnamed_text, unread_text, unseen_text, why_listed};
+ghost use Rattle.md_notices.specs.Lines.{chunks_lost_text, dropped_text, first_ungiven_text, forgotten_text, held_text, listed_text, lost_text, marked_line_text, parted_text, uncompared_text, ungiven_count_text, ungiven_sectors_text, ungiven_text, unnamed_text, unread_text, unseen_text, why_listed};
 
+use crate::lost_sectors::Lost;
 use md_assembly::MemberState;
 use md_examine::{Sink, SinkFault, number_after, put_name};
 
@@ -71,6 +72,50 @@ pub fn listed_line<S: Sink>(
     number_after(out, why_listed(was), count)?;
     out.put(b"\n")?;
     Ok(())
+}
+
+/// Says how many sectors of the array no member in sync gives, and which is the first, where there are some.
+pub fn ungiven_line<S: Sink>(out: &mut S, lost: Lost) -> Result<(), SinkFault>
+    ensures { PutsOrFails S.contents S.failed out.old out.new (ungiven_text lost) result }
+{
+    match lost.first {
+        Some(first) => ungiven_sectors_line(out, lost.count, first),
+        None => out.put(b""),
+    }
+}
+
+fn ungiven_sectors_line<S: Sink>(out: &mut S, count: u64, first: u64) -> Result<(), SinkFault>
+    ensures { PutsOrFails S.contents S.failed out.old out.new (ungiven_sectors_text count first) result }
+{
+    ungiven_count(out, count)?;
+    first_ungiven(out, first)?;
+    Ok(())
+}
+
+fn ungiven_count<S: Sink>(out: &mut S, count: u64) -> Result<(), SinkFault>
+    ensures { PutsOrFails S.contents S.failed out.old out.new (ungiven_count_text count) result }
+{
+    out.put(b"mdcli: sectors of the array that no member in sync gives")?;
+    number_after(out, b": ", count)?;
+    Ok(())
+}
+
+#[tactic(auto, unfolding(crate::specs::Lines::first_ungiven_text), using(md_examine::proofs::Puts::puts_then))]
+fn first_ungiven<S: Sink>(out: &mut S, first: u64) -> Result<(), SinkFault>
+    ensures { PutsOrFails S.contents S.failed out.old out.new (first_ungiven_text first) result }
+{
+    number_after(out, b", the first is ", first)?;
+    out.put(b"\n")?;
+    Ok(())
+}
+
+/// Says that a rebuild which lost chunks for their bad sectors need not.
+pub fn chunks_lost_line<S: Sink>(out: &mut S) -> Result<(), SinkFault>
+    ensures { PutsOrFails S.contents S.failed out.old out.new chunks_lost_text result }
+{
+    out.put(
+        b"mdcli: of a chunk with bad sectors all are listed; `rebuild --salvage` lists the bad sectors alone\n",
+    )
 }
 
 /// Says that a device of the array is not among the images.

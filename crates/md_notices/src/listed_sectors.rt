@@ -4,7 +4,7 @@ ghost use Rattle.md_notices.specs.ListedSectors.{all_sector_counts, all_longer_l
 
 use crate::noticing::{Asked, MAX_MEMBERS, place_after};
 use md_array::Mirror;
-use md_badblocks::Run;
+use md_badblocks::{BadSet, Run};
 use md_device::Device;
 
 // Runs of a set don't overlap, and end by sector 2^54.
@@ -15,13 +15,20 @@ fn sector_count(runs: &[Run]) -> u64
     runs.iter().map(|run| run.len).sum()
 }
 
+/// How many sectors a set has.
+pub fn count_sectors(bad: &BadSet) -> u64
+    ensures { result ≡ sector_count bad.now }
+{
+    sector_count(bad.runs())
+}
+
 fn sector_count_at<D: Device + Drop>(mirror: &Mirror<D>, k: usize) -> u64
     ensures { result ≡ sector_count_at mirror.now.array.members k }
 {
     if k >= mirror.members() {
         return 0;
     }
-    sector_count(mirror.bad(k).runs())
+    count_sectors(mirror.bad(k))
 }
 
 /// How many sectors the member in each place lists as bad, 0 where there is none.

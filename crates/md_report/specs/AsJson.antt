@@ -22,3 +22,5 @@ pub mod PlanObject
 pub mod RefusalObject
 -- The object of a rebuild that is done.
 pub mod RebuiltObject
+-- The object of a rebuild that lists bad sectors, and not their chunks.
+pub mod SalvagedObject

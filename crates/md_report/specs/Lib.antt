@@ -8,6 +8,8 @@ pub mod VerboseReport
 pub mod PlanReport
 -- The report of a rebuild, as text, in a form of this project's own.
 pub mod RebuiltReport
+-- The report of a rebuild that lists bad sectors, and not their chunks, as text, in a form of this project's own.
+pub mod SalvagedReport
 -- The report of a check, as text, in a form of this project's own.
 pub mod CheckReport
 -- How far recovering members are rebuilt, as text, in a form of this project's own.

@@ -1,5 +1,5 @@
 //! The reports on a whole array, as text: a mirror in short and in detail, the plan of a rebuild, a rebuild
-//! that is done, and a check.
+//! that is done, whatever it loses for a bad sector, and a check.
 //!
 //! Start with `summary` and `detail`, which are given an opened mirror.
 //!
@@ -18,10 +18,10 @@ mod recovery;
 
 pub use as_json::{
     badblocks_json, bitmap_json, check_json, detail_json, plan_json, put_quoted, rebuilt_json,
-    refusal_json, summary_json, superblock_json,
+    refusal_json, salvaged_json, summary_json, superblock_json,
 };
 pub use as_text::{
     check_list_report, check_report, detail, members_in_sync, plan_report, rebuilt_line_report,
-    rebuilt_report, summary, verbose_detail,
+    rebuilt_report, salvaged_line_report, salvaged_report, summary, verbose_detail,
 };
 pub use recovery::Recovery;

@@ -4,6 +4,10 @@ use Rattle.clap.specs.Words.{Text}
 use Rattle.md_images.specs.declared.access.Access.{Access}
 use Rattle.md_images.specs.declared.access.Access.TheVariants.{Change, ChangeOrLook, Look}
 use Rattle.md_words.specs.declared.create_options.CreateOptions.{CreateOptions}
+use Rattle.md_words.specs.declared.array_command.ArrayCommand.{ArrayCommand}
+use Rattle.md_words.specs.declared.array_command.ArrayCommand.TheVariants as array
+use Rattle.md_words.specs.declared.image_command.ImageCommand.{ImageCommand}
+use Rattle.md_words.specs.declared.image_command.ImageCommand.TheVariants as image
 use Rattle.md_words.specs.declared.command.Command.{Command}
 use Rattle.md_words.specs.declared.command.Command.TheVariants as command
 use Rattle.md_words.specs.declared.form.CheckForm.{CheckForm}
@@ -12,6 +16,8 @@ use Rattle.md_words.specs.declared.form.DetailForm.{DetailForm}
 use Rattle.md_words.specs.declared.form.DetailForm.TheVariants as detail_form
 use Rattle.md_words.specs.declared.form.RebuildForm.{RebuildForm}
 use Rattle.md_words.specs.declared.form.RebuildForm.TheVariants as rebuild_form
+use Rattle.md_words.specs.declared.loss.Loss.{Loss}
+use Rattle.md_words.specs.declared.loss.Loss.TheVariants as losing
 use Rattle.md_words.specs.declared.form.ImageForm.{ImageForm}
 use Rattle.md_words.specs.declared.form.ImageForm.TheVariants as image_form
 use Rattle.md_words.specs.declared.overwritten.Overwritten.{Overwritten}
@@ -55,7 +61,7 @@ pub data Ask : Type 0 where
   removes : ℕ → Ask  -- it leaves the array
   adds : Text → Bool → Ask  -- the image under this name joins it
   re_adds : Text → Bool → Bool → Ask  -- the image under this name, which left it, comes back and gets what it lacks; whether that is all of it
-  rebuilds : ℕ → RebuildForm → Ask  -- the member with this index gets what it lacks
+  rebuilds : ℕ → Loss → RebuildForm → Ask  -- the member with this index gets what it lacks, but for what is lost
 
 -- whether no image may be changed, by a command that else might change some
 abbrev pub is_readonly : Ask → Bool
@@ -86,16 +92,6 @@ full_access_of _ = Change
 abbrev pub access_of : Ask → Access
 access_of ask = if is_readonly ask then Look else full_access_of ask
 
--- whether the images are opened as an array
-abbrev pub opens_array : Ask → Bool
-opens_array (examines form) = false
-opens_array (examines_bitmap form) = false
-opens_array (examines_badblocks form) = false
-opens_array (scans json) = false
-opens_array (creates o) = false
-opens_array (grows bitmap kib) = false
-opens_array _ = true
-
 -- where it tells of which arrays images are members: whether the report is a JSON object
 abbrev pub scan_form : Ask → Option Bool
 scan_form (scans json) = Some json
@@ -118,7 +114,7 @@ abbrev pub member_of : Ask → Option ℕ
 member_of (plans k json readonly) = Some k
 member_of (fails k) = Some k
 member_of (removes k) = Some k
-member_of (rebuilds k form) = Some k
+member_of (rebuilds k loss form) = Some k
 member_of _ = None
 
 -- the member that is to leave it
@@ -137,7 +133,7 @@ tells_parted (assembles json readonly) = true
 tells_parted (details form readonly) = true
 tells_parted (plans k json readonly) = true
 tells_parted (re_adds name full json) = true
-tells_parted (rebuilds k form) = true
+tells_parted (rebuilds k loss form) = true
 tells_parted _ = false
 
 -- what it overwrites that perhaps should stay
@@ -145,7 +141,7 @@ abbrev pub overwritten_by : Ask → Overwritten
 overwritten_by (creates o) = overwritten.Images
 overwritten_by (adds name json) = overwritten.NewDevice
 overwritten_by (re_adds name full json) = overwritten.ReturningDevice
-overwritten_by (rebuilds k form) = overwritten.Member k
+overwritten_by (rebuilds k loss form) = overwritten.Member k
 overwritten_by _ = overwritten.Nothing
 
 -- whether a report is a JSON object
@@ -179,7 +175,7 @@ is_json (creates o) = o.json
 is_json (stops json) = json
 is_json (adds name json) = json
 is_json (re_adds name full json) = json
-is_json (rebuilds k form) = is_json_of_rebuild form
+is_json (rebuilds k loss form) = is_json_of_rebuild form
 is_json _ = false
 
 -- whether it compares the members in sync
@@ -208,9 +204,15 @@ long_task_of (reads sector count fill readonly) = Some (long.Read count)
 long_task_of (checks form exit_code readonly) = Some long.Check
 long_task_of resyncs = Some long.Resync
 long_task_of (re_adds name full json) = Some long.Rebuild
-long_task_of (rebuilds k form) = Some long.Rebuild
+long_task_of (rebuilds k loss form) = Some long.Rebuild
 long_task_of (writes sector count) = Some long.Write
 long_task_of _ = None
+
+-- what a rebuild that it does loses for a bad sector
+abbrev pub loss_of : Ask → Option Loss
+loss_of (re_adds name full json) = Some losing.Chunks
+loss_of (rebuilds k loss form) = Some loss
+loss_of _ = None
 
 -- The options of `create` as they were parsed.
 abbrev pub options_of : CreateOptions → Options
@@ -227,25 +229,31 @@ options_of o = record {
   json = o.json;
 }
 
+abbrev pub image_ask : ImageCommand → Ask
+image_ask (image.Examine form) = examines form
+image_ask (image.ExamineBitmap form) = examines_bitmap form
+image_ask (image.ExamineBadblocks form) = examines_badblocks form
+
+abbrev pub array_ask : ArrayCommand → Ask
+array_ask (array.Assemble json readonly) = assembles json readonly
+array_ask (array.Detail form readonly) = details form readonly
+array_ask (array.Plan k json readonly) = plans k json readonly
+array_ask (array.Read sector count fill readonly) = reads sector count fill readonly
+array_ask (array.Serve fill) = serves fill
+array_ask array.ServeWritable = serves_writable
+array_ask (array.Check form exit_code readonly) = checks form exit_code readonly
+array_ask (array.Write sector count) = writes sector count
+array_ask array.Resync = resyncs
+array_ask (array.Stop json) = stops json
+array_ask (array.Fail k) = fails k
+array_ask (array.Remove k) = removes k
+array_ask (array.Add device json) = adds device.now json
+array_ask (array.ReAdd device full json) = re_adds device.now full json
+array_ask (array.Rebuild k loss form) = rebuilds k loss form
+
 abbrev pub ask_of : Command → Ask
-ask_of (command.Examine form) = examines form
-ask_of (command.ExamineBitmap form) = examines_bitmap form
-ask_of (command.ExamineBadblocks form) = examines_badblocks form
+ask_of (command.Image c) = image_ask c
 ask_of (command.Scan json) = scans json
 ask_of (command.Create options) = creates (options_of options)
 ask_of (command.Grow bitmap kib) = grows bitmap.now kib
-ask_of (command.Assemble json readonly) = assembles json readonly
-ask_of (command.Detail form readonly) = details form readonly
-ask_of (command.Plan k json readonly) = plans k json readonly
-ask_of (command.Read sector count fill readonly) = reads sector count fill readonly
-ask_of (command.Serve fill) = serves fill
-ask_of command.ServeWritable = serves_writable
-ask_of (command.Check form exit_code readonly) = checks form exit_code readonly
-ask_of (command.Write sector count) = writes sector count
-ask_of command.Resync = resyncs
-ask_of (command.Stop json) = stops json
-ask_of (command.Fail k) = fails k
-ask_of (command.Remove k) = removes k
-ask_of (command.Add device json) = adds device.now json
-ask_of (command.ReAdd device full json) = re_adds device.now full json
-ask_of (command.Rebuild k form) = rebuilds k form
+ask_of (command.Array c) = array_ask c

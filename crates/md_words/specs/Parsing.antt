@@ -12,6 +12,8 @@ use Rattle.md_words.specs.declared.form.DetailForm.{DetailForm}
 use Rattle.md_words.specs.declared.form.DetailForm.TheVariants as detail_form
 use Rattle.md_words.specs.declared.form.RebuildForm.{RebuildForm}
 use Rattle.md_words.specs.declared.form.RebuildForm.TheVariants as rebuild_form
+use Rattle.md_words.specs.declared.loss.Loss.{Loss}
+use Rattle.md_words.specs.declared.loss.Loss.TheVariants as loss
 use Rattle.md_words.specs.declared.form.ImageForm.{ImageForm}
 use Rattle.md_words.specs.declared.form.ImageForm.TheVariants as image_form
 use Rattle.md_words.specs.Asks.{Ask, Options, examines, examines_bitmap, examines_badblocks, scans, creates, grows, assembles, details, plans, reads, serves, serves_writable, checks, writes, resyncs, stops, fails, removes, adds, re_adds, rebuilds}
@@ -74,6 +76,10 @@ exit_code_in rows = bytes_eq (text_in (codes "exit-code") rows) (codes "true")
 abbrev pub quiet_in : List Row → Bool
 quiet_in rows = bytes_eq (text_in (codes "quiet") rows) (codes "true")
 
+-- whether a rebuild lists bad sectors, and not their chunks
+abbrev pub salvage_in : List Row → Bool
+salvage_in rows = bytes_eq (text_in (codes "salvage") rows) (codes "true")
+
 -- whether more is to be said: of a refusal, and of the members where the array is shown in detail
 abbrev pub verbose_in : List Row → Bool
 verbose_in rows = bytes_eq (text_in (codes "verbose") rows) (codes "true")
@@ -99,6 +105,10 @@ abbrev pub rebuild_form_in : List Row → RebuildForm
 rebuild_form_in rows =
     if json_in rows then rebuild_form.Json
     else if quiet_in rows then rebuild_form.Line else rebuild_form.Plans
+
+-- what a rebuild loses
+abbrev pub loss_in : List Row → Loss
+loss_in rows = if salvage_in rows then loss.Sectors else loss.Chunks
 
 -- whether zeros stand for sectors that are not given
 abbrev pub fill_in : List Row → Bool
@@ -197,7 +207,8 @@ ask_to_change name rows =
     else if bytes_eq name (codes "add") then adds (text_in (codes "device") rows) (json_in rows)
     else if bytes_eq name (codes "re-add") then re_adds (text_in (codes "device") rows) (full_in rows)
     (json_in rows)
-    else if bytes_eq name (codes "rebuild") then rebuilds (member_in rows) (rebuild_form_in rows)
+    else if bytes_eq name (codes "rebuild") then rebuilds (member_in rows) (loss_in rows)
+    (rebuild_form_in rows)
     else examines (image_form_in rows)
 
 -- what `serve` asks for

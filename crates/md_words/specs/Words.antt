@@ -124,13 +124,16 @@ re_add_app =
     (with_run
     (with_json (with_rule (with_device_option (new_app (codes "re-add"))) (flag_rule (codes "full")))))
 
--- A command by which a member gets the data that it lacks. Its report may have no plan.
+-- A command by which a member gets the data that it lacks. It may lose bad sectors in place of their chunks, and its report may have no plan.
 abbrev pub rebuild_app : App
 rebuild_app =
     completed
     (with_map
     (with_run
-    (with_json (with_rule (with_member (new_app (codes "rebuild"))) (flag_rule (codes "quiet"))))))
+    (with_json
+    (with_rule
+    (with_rule (with_member (new_app (codes "rebuild"))) (flag_rule (codes "salvage")))
+    (flag_rule (codes "quiet"))))))
 
 -- an option that is a sector of the array, as a number or as a size
 abbrev pub with_sector : App → App

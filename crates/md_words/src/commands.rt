@@ -124,6 +124,15 @@ const FULL: OptionWords = OptionWords {
     default: None,
 };
 
+const SALVAGE: OptionWords = OptionWords {
+    name: "salvage",
+    value: "",
+    help: "Lists the bad sectors alone that no member gives, and not their chunks",
+    kind: Kind::Flag,
+    required: false,
+    default: None,
+};
+
 const SECTOR: OptionWords = OptionWords {
     name: "sector",
     value: "S",
@@ -500,6 +509,6 @@ pub(crate) const REBUILD_COMMANDS: [CommandWords; 2] = [
         aliases: &[],
         about: "Rebuilds a member from all others at once by its plan, and stops the array",
         after_help: help::REBUILD,
-        options: &[MEMBER, QUIET, JSON, RUN, MAP],
+        options: &[MEMBER, SALVAGE, QUIET, JSON, RUN, MAP],
     },
 ];

@@ -4,13 +4,16 @@ ghost use Rattle.std.specs.Str.{bytes_eq};
 ghost use Rattle.clap.specs.Words.{FailsBy, fault_of, first_of, found_of, matched_of, raw_values, rows_of, subcommand_of, subcommand_rows_of};
 ghost use Rattle.md_words.specs.Words.{mdcli};
 ghost use Rattle.md_words.specs.Numbers.{number_or_zero};
-ghost use Rattle.md_words.specs.Parsing.{all_in, ask_found, ask_named, ask_to_change, asked, bitmap_found, bitmap_in, bitmap_word, check_form_in, chunk_in, command_fault, count_in, detail_form_in, exit_code_in, fill_in, full_in, has_maps, image_form_in, image_words, images_found, is_no_size, is_verbose, json_in, lacks_option, list_in, map_out_found, map_out_in, map_out_word, map_words, maps_found, member_at, member_fault, member_in, member_named, names_bitmap_alone, names_map_alone, names_no_member, names_no_sectors, names_no_size, needs_readonly, option_fault, options_in, output_found, output_in, output_word, place_in, quiet_in, readonly_in, rebuild_form_in, resume_found, resume_in, resumes, resumes_alone, run_found, run_in, runs, sector_in, sectors_or_zero, serve_in, size_fault, size_in, text_in, uuid_in, value_fault, verbose_found, verbose_in, words_fault};
+ghost use Rattle.md_words.specs.Parsing.{all_in, ask_found, ask_named, ask_to_change, asked, bitmap_found, bitmap_in, bitmap_word, check_form_in, chunk_in, command_fault, count_in, detail_form_in, exit_code_in, fill_in, full_in, has_maps, image_form_in, image_words, images_found, is_no_size, is_verbose, json_in, lacks_option, list_in, loss_in, map_out_found, map_out_in, map_out_word, map_words, maps_found, member_at, member_fault, member_in, member_named, names_bitmap_alone, names_map_alone, names_no_member, names_no_sectors, names_no_size, needs_readonly, option_fault, options_in, output_found, output_in, output_word, place_in, quiet_in, readonly_in, rebuild_form_in, resume_found, resume_in, resumes, resumes_alone, run_found, run_in, runs, salvage_in, sector_in, sectors_or_zero, serve_in, size_fault, size_in, text_in, uuid_in, value_fault, verbose_found, verbose_in, words_fault};
 ghost use Rattle.md_words.specs.Asks.{ask_of, options_of};
 
+use crate::array_command::ArrayCommand;
 use crate::command::Command;
 use crate::command_line::command_line;
 use crate::create_options::CreateOptions;
 use crate::form::{CheckForm, DetailForm, ImageForm, RebuildForm};
+use crate::image_command::ImageCommand;
+use crate::loss::Loss;
 use crate::request::Request;
 use crate::sizes::{u32_kib, u64_kib, u64_sectors};
 use clap::error::ErrorKind;
@@ -123,6 +126,12 @@ fn is_quiet(found: &ArgMatches<'_>) -> bool
     text_in(found, "quiet") == "true"
 }
 
+fn is_salvage(found: &ArgMatches<'_>) -> bool
+    ensures { result ≡ salvage_in (rows_of (found_of found.now)) }
+{
+    text_in(found, "salvage") == "true"
+}
+
 fn is_json(found: &ArgMatches<'_>) -> bool
     ensures { result ≡ json_in (rows_of (found_of found.now)) }
 {
@@ -184,6 +193,16 @@ fn rebuild_form(found: &ArgMatches<'_>) -> RebuildForm
         RebuildForm::Line
     } else {
         RebuildForm::Plans
+    }
+}
+
+fn loss_of(found: &ArgMatches<'_>) -> Loss
+    ensures { result ≡ loss_in (rows_of (found_of found.now)) }
+{
+    if is_salvage(found) {
+        Loss::Sectors
+    } else {
+        Loss::Chunks
     }
 }
 
@@ -316,11 +335,11 @@ fn serve_command<'a>(found: &ArgMatches<'a>) -> Command<'a>
     ensures { ask_of result ≡ serve_in (rows_of (found_of found.now)) }
 {
     if is_readonly(found) {
-        Command::Serve {
+        Command::Array(ArrayCommand::Serve {
             fill: is_fill(found),
-        }
+        })
     } else {
-        Command::ServeWritable
+        Command::Array(ArrayCommand::ServeWritable)
     }
 }
 
@@ -329,13 +348,13 @@ fn command_of<'a>(name: &str, found: &ArgMatches<'a>) -> Command<'a>
     ensures { ask_of result ≡ ask_named name.now (rows_of (found_of found.now)) }
 {
     if name == "examine-bitmap" {
-        Command::ExamineBitmap {
+        Command::Image(ImageCommand::ExamineBitmap {
             form: image_form(found),
-        }
+        })
     } else if name == "examine-badblocks" {
-        Command::ExamineBadblocks {
+        Command::Image(ImageCommand::ExamineBadblocks {
             form: image_form(found),
-        }
+        })
     } else if name == "scan" {
         Command::Scan {
             json: is_json(found),
@@ -348,38 +367,38 @@ fn command_of<'a>(name: &str, found: &ArgMatches<'a>) -> Command<'a>
             chunk: chunk_of(found),
         }
     } else if name == "assemble" {
-        Command::Assemble {
+        Command::Array(ArrayCommand::Assemble {
             json: is_json(found),
             readonly: is_readonly(found),
-        }
+        })
     } else if name == "detail" {
-        Command::Detail {
+        Command::Array(ArrayCommand::Detail {
             form: detail_form(found),
             readonly: is_readonly(found),
-        }
+        })
     } else if name == "plan" {
-        Command::Plan {
+        Command::Array(ArrayCommand::Plan {
             member: member_in(found),
             json: is_json(found),
             readonly: is_readonly(found),
-        }
+        })
     } else if name == "read" {
         let sector = sector_of(found);
         let count = count_of(found);
-        Command::Read {
+        Command::Array(ArrayCommand::Read {
             sector,
             count,
             fill: is_fill(found),
             readonly: is_readonly(found),
-        }
+        })
     } else if name == "serve" {
         serve_command(found)
     } else if name == "check" {
-        Command::Check {
+        Command::Array(ArrayCommand::Check {
             form: check_form(found),
             exit_code: is_exit_code(found),
             readonly: is_readonly(found),
-        }
+        })
     } else {
         command_that_changes(name, found)
     }
@@ -390,44 +409,45 @@ fn command_that_changes<'a>(name: &str, found: &ArgMatches<'a>) -> Command<'a>
     ensures { ask_of result ≡ ask_to_change name.now (rows_of (found_of found.now)) }
 {
     if name == "write" {
-        Command::Write {
+        Command::Array(ArrayCommand::Write {
             sector: sector_of(found),
             count: count_of(found),
-        }
+        })
     } else if name == "resync" {
-        Command::Resync
+        Command::Array(ArrayCommand::Resync)
     } else if name == "stop" {
-        Command::Stop {
+        Command::Array(ArrayCommand::Stop {
             json: is_json(found),
-        }
+        })
     } else if name == "fail" {
-        Command::Fail {
+        Command::Array(ArrayCommand::Fail {
             member: member_in(found),
-        }
+        })
     } else if name == "remove" {
-        Command::Remove {
+        Command::Array(ArrayCommand::Remove {
             member: member_in(found),
-        }
+        })
     } else if name == "add" {
-        Command::Add {
+        Command::Array(ArrayCommand::Add {
             device: text_in(found, "device"),
             json: is_json(found),
-        }
+        })
     } else if name == "re-add" {
-        Command::ReAdd {
+        Command::Array(ArrayCommand::ReAdd {
             device: text_in(found, "device"),
             full: is_full(found),
             json: is_json(found),
-        }
+        })
     } else if name == "rebuild" {
-        Command::Rebuild {
+        Command::Array(ArrayCommand::Rebuild {
             member: member_in(found),
+            loss: loss_of(found),
             form: rebuild_form(found),
-        }
+        })
     } else {
-        Command::Examine {
+        Command::Image(ImageCommand::Examine {
             form: image_form(found),
-        }
+        })
     }
 }
 
@@ -449,9 +469,9 @@ fn request_of<'a>(alloc: Global, matches: &ArgMatches<'a>) -> Result<Request<'a>
 {
     let Some((name, found)) = matches.subcommand() else {
         return Ok(Request {
-            command: Command::Examine {
+            command: Command::Image(ImageCommand::Examine {
                 form: ImageForm::Text,
-            },
+            }),
             images: Vec::new(alloc),
             maps: Vec::new(alloc),
             map_out: None,

@@ -1,5 +1,5 @@
 -- A round begins with the sure offsets of recovering members, which fall in memory.
-use Rattle.std.proofs.Common.{◌≡◌, ℕ, ◌*◌, ◌/◌, ◌≤◌, ◌||◌, false, cond, min, List, map, slice_get, sym, ap, ◌∙◌, subst, arith}
+use Rattle.std.proofs.Common.{◌≡◌, ℕ, ◌*◌, ◌/◌, ◌≤◌, ◌||◌, cond, min, List, map, slice_get, sym, ap, ◌∙◌, subst, arith}
 use Rattle.std.specs.Prelude.{Result, Ok, Err, MatchResult}
 use Rattle.md_bitmap.specs.declared.chunks.Chunks.{Chunks}
 use Rattle.md_inflight.specs.Requests.Pending.{PendingView}
@@ -34,34 +34,31 @@ all_lowered sector p old new is h i m at =
     let x = mapped_from (lowered_member sector) old.array.members i m (sym (ap (λ (xs : List MemberView). slice_get xs i) members) ∙ at) in
     subst (IsLowered new.array p) (ap (λ (s : ℕ). lowered_member s x.from) (sym is) ∙ x.is) (lowered_is new.array p x.from)
 
-module _ (p : PendingView) (first end : ℕ) (sector : ℕ) (old mid : MirrorView) (pending : IsPending old.array p) (chunks : AreChunksOf old.array p first end)
-    (is : sector ≡ first * old.array.chunks.sectors) (h : LowersAll sector old mid) where
-  pub chunks_then : AreChunksOf mid.array p first end
-  chunks_then = chunks_later old.array mid.array p p first end h.goes.array (later_refl p) chunks
+-- a request's round has begun so
+pub record HasLowered (p : PendingView) (first end : ℕ) (old mid : MirrorView) : Type 0 where
+  pub chunks : AreChunksOf mid.array p first end
+  pub pending : IsPending mid.array p
+  pub lowered : AllLowered mid.array p
+  pub halted : mid.array.halted ≡ old.array.halted
+  pub advances : AdvancesRequest Part.Marks Part.Marks p p old mid
 
-  pub pending_then : IsPending mid.array p
-  pending_then = h.goes.pending p pending
-
-  pub lowered_then : AllLowered mid.array p
-  lowered_then =
-      all_lowered sector p old mid
+pub has_lowered : (p : PendingView) (first end sector : ℕ) (old mid : MirrorView) → IsPending old.array p → AreChunksOf old.array p first end
+    → sector ≡ first * old.array.chunks.sectors → LowersAll sector old mid → HasLowered p first end old mid
+has_lowered p first end sector old mid pending chunks is h = record {
+  chunks = chunks_later old.array mid.array p p first end h.goes.array (later_refl p) chunks;
+  pending = h.goes.pending p pending;
+  lowered = all_lowered sector p old mid
       (is ∙ ap (λ (c : ℕ). c * old.array.chunks.sectors) chunks.first_is
-      ∙ sym (ap (λ (c : Chunks). (p.sector / c.sectors) * c.sectors) h.goes.array.chunks)) h
+      ∙ sym (ap (λ (c : Chunks). (p.sector / c.sectors) * c.sectors) h.goes.array.chunks)) h;
+  halted = ap (λ (a : ArrayView). a.halted) h.array;
+  advances = stored_beside (IsLowering sector) p old mid pending (lowering_is old.array.chunks p sector) Part.Marks Part.Marks (lowering_leaves sector) h.goes;
+}
 
-  same_halted : mid.array.halted ≡ old.array.halted
-  same_halted = ap (λ (a : ArrayView). a.halted) h.array
+module _ (p q : PendingView) (first end : ℕ) (old mid new : MirrorView) (l : HasLowered p first end old mid) where
+  pub round_stops : (fault : PartFault) → WritingFails Part.Marks p q mid new fault → WritingFails Part.Marks p q old new fault
+  round_stops fault r = stops_later p p q old mid new Part.Marks Part.Marks l.advances fault l.halted r
 
-  pub running_then : old.array.halted ≡ false → mid.array.halted ≡ false
-  running_then run = same_halted ∙ run
-
-  begins : AdvancesRequest Part.Marks Part.Marks p p old mid
-  begins = stored_beside (IsLowering sector) p old mid pending (lowering_is old.array.chunks p sector) Part.Marks Part.Marks (lowering_leaves sector) h.goes
-
-  module _ (q : PendingView) (new : MirrorView) where
-    pub round_stops : (fault : PartFault) → WritingFails Part.Marks p q mid new fault → WritingFails Part.Marks p q old new fault
-    round_stops fault r = stops_later p p q old mid new Part.Marks Part.Marks begins fault same_halted r
-
-    pub round_then : {T : Type 0} (result : Result T PartFault) → MatchResult result (λ _. IsReadyToFinish p q mid new) (WritingFails Part.Marks p q mid new)
-        → MatchResult result (λ _. IsReadyToFinish p q old new) (WritingFails Part.Marks p q old new)
-    round_then (Ok t) r = ready_on p p q old mid new begins r
-    round_then (Err fault) r = round_stops fault r
+  pub round_then : {T : Type 0} (result : Result T PartFault) → MatchResult result (λ _. IsReadyToFinish p q mid new) (WritingFails Part.Marks p q mid new)
+      → MatchResult result (λ _. IsReadyToFinish p q old new) (WritingFails Part.Marks p q old new)
+  round_then (Ok t) r = ready_on p p q old mid new l.advances r
+  round_then (Err fault) r = round_stops fault r

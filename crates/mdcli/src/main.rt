@@ -13,12 +13,6 @@
 //! ```
 #![tactic(auto)]
 
-ghost use Rattle.std.specs.Prelude.{◌≡◌, IfOk, option_map};
-ghost use Rattle.clap.specs.Words.{FailsBy};
-ghost use Rattle.md_words.specs.Parsing.{asked, bitmap_word, image_words, words_fault};
-ghost use Rattle.md_words.specs.Asks.{ask_of};
-ghost use Rattle.md_messages.specs.Telling.{texts};
-
 mod arguments;
 mod images;
 mod outputs;
@@ -38,20 +32,18 @@ use crate::random::bytes_if_needed;
 use crate::standard_input::bytes_left_if_taken;
 use clap::Error;
 use md_cli::{Session, run};
-use md_commands::{Input, Source};
+use md_commands::Input;
 use md_examine::{Buffered, Sink};
 use md_files::{Cleared, CodedJson, Line, MapText, MaskedImages};
-use md_messages::{Asker, Messages};
+use md_messages::Messages;
 use md_outputs::{Names, identity_of, resumed_of};
 use md_read_commands::Gaps;
 use md_words::{LongTask, Request, parse};
 use std::alloc::{AllocError, Global};
 use std::fs::File;
-use std::io::{self, IsTerminal, Write};
+use std::io::{self, IsTerminal, Stderr, Stdin, Write};
 use std::process::ExitCode;
 use std::rt::Files;
-use std::sync::Wait;
-use std::thread::Threads;
 
 // The status of words that are not taken, and that of a command that is refused.
 const WORDS_NOT_TAKEN: u8 = 2;
@@ -60,12 +52,8 @@ const REFUSED: u8 = 1;
 
 fn main(rt: HostRuntime) -> ExitCode {
     let _standard_streams = filled_streams(&rt);
-    let args = match arguments(&rt) {
-        Ok(args) => args,
-        Err(fault) => {
-            let _ = eprintln!(rt; "mdcli: {fault}");
-            return ExitCode::from(WORDS_NOT_TAKEN);
-        }
+    let Some(args) = arguments_if_taken(&rt) else {
+        return ExitCode::from(WORDS_NOT_TAKEN);
     };
     let Ok(words) = word_list(rt.alloc(), &args) else {
         let _ = eprintln!(rt; "mdcli: NoMemory");
@@ -80,50 +68,126 @@ fn main(rt: HostRuntime) -> ExitCode {
     let progress = Progress::new(&rt, task, messages, is_verbose(&parsed));
     let setting = Setting {
         rt: &rt,
-        threads: &rt,
         messages,
         progress: &progress,
     };
-    let status = obey(&setting, words, parsed, person);
-    ExitCode::from(status)
+    let mut err = standard_error(&setting, &parsed);
+    // Output that goes elsewhere leaves the line of progress as it is.
+    let standard = Cleared::new(io::writer(&rt), &progress, rt.stdout().is_terminal());
+    let begun = Begun::of_parsed(&setting, &parsed, standard, person, &mut err);
+    let Some(
+        Begun {
+            mut images,
+            mut session,
+            ending,
+        },
+    ) = begun
+    else {
+        return ExitCode::from(REFUSED);
+    };
+    let status = match scan_of_all(&parsed) {
+        Some(json) => scan_devices(&setting, json, &mut session.out, &mut err),
+        None => run(&mut session, words, parsed, &mut images, &mut err, messages),
+    };
+    let is_done = is_ended(&setting, session, ending, &mut err);
+    ExitCode::from(if is_done { status } else { REFUSED })
+}
+
+// The words, or none where they are not taken: says why.
+fn arguments_if_taken(rt: &HostRuntime) -> Option<Vec<String>> {
+    match arguments(rt) {
+        Ok(args) => Some(args),
+        Err(fault) => {
+            let _ = eprintln!(rt; "mdcli: {fault}");
+            None
+        }
+    }
 }
 
 // What the commands are shown and told by.
 #[derive(Drop)]
-struct Setting<'a, T> {
+struct Setting<'a> {
     rt: &'a HostRuntime,
-    threads: &'a T,
     messages: Messages,
     progress: &'a Progress<'a>,
 }
 
-// Does what the words ask for, and says how.
-fn obey<'a, 'b, T: Threads + Wait + Sync>(
-    setting: &'b Setting<'b, T>,
-    words: &'a [&'a str],
-    parsed: Result<Request<'a>, Error>,
-    person: Person,
-) -> u8
-    requires asks { IfOk parsed (λ r. ask_of r.command ≡ asked (texts words.now)) }
-    requires images { IfOk parsed (λ r. texts r.images.items ≡ image_words (texts words.now)) }
-    requires bitmap { IfOk parsed (λ r. option_map (λ s. s.now) r.bitmap ≡ bitmap_word (texts words.now)) }
-    requires fails { FailsBy (words_fault (texts words.now)) parsed }
-{
+// Where refusals are told, beside the line of progress.
+fn standard_error<'a, F>(
+    setting: &Setting<'a>,
+    parsed: &Result<Request<'_>, F>,
+) -> Cleared<'a, Stderr, Progress<'a>> {
     let mut err = Cleared::new(setting.rt.stderr(), setting.progress, true);
     if parsed.is_err() {
         // The parser's text has the words as they are.
         err.code_text();
     }
-    let masked = masked_of(setting, &parsed, &mut err);
-    let Some(masked) = masked else {
-        return REFUSED;
-    };
-    obey_over(setting, words, parsed, masked, person, &mut err)
+    err
+}
+
+// What `run` is given of the system, where a command puts out to such a sink unless it is asked for a file.
+type FileSession<'a, S> = Session<
+    'a,
+    HostRuntime,
+    Input<Stdin>,
+    CodedJson<Buffered<Outputs<'a, S>>>,
+    Progress<'a>,
+    Prompt<'a>,
+>;
+
+// What a command is run with: its images, under the maps; where it puts out; and how its files are ended.
+#[derive(Drop)]
+struct Begun<'a, 'b, S: Sink + Drop> {
+    images: MaskedImages<FileImages<'b>>,
+    session: FileSession<'b, S>,
+    ending: Ending<'a>,
+}
+
+impl<'a, 'b, S: Sink + Drop> Begun<'a, 'b, S> {
+    // Lays the maps over the images, and opens or makes the files of a read. Says on `err` why it can't.
+    fn of_parsed<E: Write + Sink>(
+        setting: &Setting<'b>,
+        parsed: &Result<Request<'a>, Error>,
+        standard: S,
+        person: Person,
+        err: &mut E,
+    ) -> Option<Begun<'a, 'b, S>> {
+        let (rt, messages) = (setting.rt, setting.messages);
+        let Masked { images, texts } = masked_of(setting, parsed, err)?;
+        let opened = opened_for(setting, parsed, &texts, standard, err)?;
+        let ending = Ending::begin(rt, parsed, messages, err);
+        let Some(ending) = ending else {
+            let (output, names) = (output_of(parsed), Names::of_parsed(parsed));
+            let _ = is_output_ended(opened.outputs, output, names, messages, err);
+            return None;
+        };
+        let session = session_over(setting, parsed, opened, person);
+        Some(Begun {
+            images,
+            session,
+            ending,
+        })
+    }
+}
+
+// Says how far a command came, and ends its files. Says on `err` why it can't.
+fn is_ended<S: Sink + Drop, E: Write + Sink>(
+    setting: &Setting<'_>,
+    session: FileSession<'_, S>,
+    ending: Ending<'_>,
+    err: &mut E,
+) -> bool {
+    let (rt, progress) = (setting.rt, setting.progress);
+    progress.clear();
+    tell_standing(progress.sectors_standing(), err);
+    let (outputs, of_all) = put_out_by(session);
+    let count = progress.sectors_to_read();
+    ending.is_done(rt, outputs, count, of_all, setting.messages, err)
 }
 
 // Lays the maps over the images. Says on `err` why it can't.
-fn masked_of<'a, T, F, E: Write + Sink>(
-    setting: &Setting<'a, T>,
+fn masked_of<'a, F, E: Write + Sink>(
+    setting: &Setting<'a>,
     parsed: &Result<Request<'_>, F>,
     err: &mut E,
 ) -> Option<Masked<'a>> {
@@ -143,48 +207,9 @@ fn masked_of<'a, T, F, E: Write + Sink>(
     }
 }
 
-// Opens or makes the files of a read, and leaves the rest to `run`.
-fn obey_over<'a, 'b, T: Threads + Wait + Sync, E: Write + Sink>(
-    setting: &'b Setting<'b, T>,
-    words: &'a [&'a str],
-    parsed: Result<Request<'a>, Error>,
-    masked: Masked<'b>,
-    person: Person,
-    err: &mut E,
-) -> u8
-    requires asks { IfOk parsed (λ r. ask_of r.command ≡ asked (texts words.now)) }
-    requires images { IfOk parsed (λ r. texts r.images.items ≡ image_words (texts words.now)) }
-    requires bitmap { IfOk parsed (λ r. option_map (λ s. s.now) r.bitmap ≡ bitmap_word (texts words.now)) }
-    requires fails { FailsBy (words_fault (texts words.now)) parsed }
-{
-    let Masked { mut images, texts } = masked;
-    let (rt, messages) = (setting.rt, setting.messages);
-    // Output that goes elsewhere leaves the line of progress as it is.
-    let standard = Cleared::new(io::writer(rt), setting.progress, rt.stdout().is_terminal());
-    let opened = opened_for(setting, &parsed, &texts, standard, err);
-    let Some(opened) = opened else {
-        return REFUSED;
-    };
-    let ending = Ending::begin(rt, &parsed, messages, err);
-    let Some(ending) = ending else {
-        let (output, names) = (output_of(&parsed), Names::of_parsed(&parsed));
-        let _ = is_output_ended(opened.outputs, output, names, messages, err);
-        return REFUSED;
-    };
-    let ran = run_into(setting, words, parsed, &mut images, opened, person, err);
-    let Ran {
-        status,
-        outputs,
-        of_all,
-    } = ran;
-    let count = setting.progress.sectors_to_read();
-    let is_done = ending.is_done(rt, outputs, count, of_all, messages, err);
-    if is_done { status } else { REFUSED }
-}
-
 // Opens or makes the file of a read, if one is asked for, or says on `err` why it can't; these are the maps.
-fn opened_for<'b, T, F, S: Sink + Drop, E: Write + Sink>(
-    setting: &Setting<'b, T>,
+fn opened_for<'b, F, S: Sink + Drop, E: Write + Sink>(
+    setting: &Setting<'b>,
     parsed: &Result<Request<'_>, F>,
     maps: &[MapText],
     standard: S,
@@ -199,29 +224,13 @@ fn opened_for<'b, T, F, S: Sink + Drop, E: Write + Sink>(
     opened_of(rt, parsed, resumed, standard, messages, err)
 }
 
-// A command that was run: its status, where it put out, and, where that was all, which sectors were not given.
-#[derive(Drop)]
-struct Ran<'a, S: Drop> {
-    status: u8,
-    outputs: Outputs<'a, S>,
-    of_all: Option<Gaps>,
-}
-
-// Runs the command.
-fn run_into<'a, 'b, T: Threads + Wait + Sync, S: Sink + Drop, E: Write + Sink>(
-    setting: &'b Setting<'b, T>,
-    words: &'a [&'a str],
-    parsed: Result<Request<'a>, Error>,
-    images: &mut MaskedImages<FileImages<'b>>,
+// What the command is given. Its progress counts from behind the sectors that stand.
+fn session_over<'b, S: Sink + Drop, F>(
+    setting: &Setting<'b>,
+    parsed: &Result<Request<'_>, F>,
     opened: Opened<'b, S>,
     person: Person,
-    err: &mut E,
-) -> Ran<'b, S>
-    requires asks { IfOk parsed (λ r. ask_of r.command ≡ asked (texts words.now)) }
-    requires images { IfOk parsed (λ r. texts r.images.items ≡ image_words (texts words.now)) }
-    requires bitmap { IfOk parsed (λ r. option_map (λ s. s.now) r.bitmap ≡ bitmap_word (texts words.now)) }
-    requires fails { FailsBy (words_fault (texts words.now)) parsed }
-{
+) -> FileSession<'b, S> {
     let (rt, progress) = (setting.rt, setting.progress);
     let Opened {
         outputs,
@@ -229,67 +238,43 @@ fn run_into<'a, 'b, T: Threads + Wait + Sync, S: Sink + Drop, E: Write + Sink>(
         earlier,
     } = opened;
     progress.begin_behind(stands);
-    let told = bytes_left_if_taken(rt, &parsed);
-    let mut session = Session {
-        rt: setting.threads,
+    let told = bytes_left_if_taken(rt, parsed);
+    Session {
+        rt,
         alloc: rt.alloc(),
         input: Input::of_length(rt.stdin(), told),
-        out: CodedJson::new(Buffered::new(rt.alloc(), outputs), is_json(&parsed)),
+        out: CodedJson::new(Buffered::new(rt.alloc(), outputs), is_json(parsed)),
         watch: progress,
         asker: Prompt::new(rt, progress, person),
-        random_bytes: bytes_if_needed(rt, &parsed),
+        random_bytes: bytes_if_needed(rt, parsed),
         gaps: earlier,
         is_all_out: false,
         stands,
         mismatched: None,
-    };
-    let status = run_or_scan(setting, &mut session, words, parsed, images, err);
+    }
+}
+
+// Where a command put out, and, where that was all, which sectors were not given.
+fn put_out_by<S: Sink + Drop>(session: FileSession<'_, S>) -> (Outputs<'_, S>, Option<Gaps>) {
     let Session {
         out,
         gaps,
         is_all_out,
         ..
     } = session;
-    Ran {
-        status,
-        outputs: out.into_inner().into_inner(),
-        of_all: if is_all_out { gaps } else { None },
-    }
+    let of_all = if is_all_out { gaps } else { None };
+    (out.into_inner().into_inner(), of_all)
 }
 
-// Runs the command, over all block devices where `scan` is given none, and says how far it came.
-fn run_or_scan<
-    'a,
-    'b,
-    T: Threads + Wait + Sync,
-    R: Source + Drop,
-    S: Sink + Drop,
-    A: Asker + Drop,
-    E: Write + Sink,
->(
-    setting: &'b Setting<'b, T>,
-    session: &mut Session<'b, T, R, S, Progress<'b>, A>,
-    words: &'a [&'a str],
-    parsed: Result<Request<'a>, Error>,
-    images: &mut MaskedImages<FileImages<'b>>,
+// Shows of which arrays all block devices are members.
+fn scan_devices<S: Sink, E: Write + Sink>(
+    setting: &Setting<'_>,
+    json: bool,
+    out: &mut S,
     err: &mut E,
-) -> u8
-    requires asks { IfOk parsed (λ r. ask_of r.command ≡ asked (texts words.now)) }
-    requires images { IfOk parsed (λ r. texts r.images.items ≡ image_words (texts words.now)) }
-    requires bitmap { IfOk parsed (λ r. option_map (λ s. s.now) r.bitmap ≡ bitmap_word (texts words.now)) }
-    requires fails { FailsBy (words_fault (texts words.now)) parsed }
-{
-    let (rt, messages, progress) = (setting.rt, setting.messages, setting.progress);
-    let status = match scan_of_all(&parsed) {
-        Some(json) => {
-            let mut devices = FileImages::new(rt, progress);
-            scan_all(rt, json, messages, &mut devices, &mut session.out, err)
-        }
-        None => run(session, words, parsed, images, err, messages),
-    };
-    progress.clear();
-    tell_standing(progress.sectors_standing(), err);
-    status
+) -> u8 {
+    let mut devices = FileImages::new(setting.rt, setting.progress);
+    scan_all(setting.rt, json, setting.messages, &mut devices, out, err)
 }
 
 // How much is said of a refusal.

@@ -2,7 +2,7 @@
 //! There is no code here.
 //!
 //! Start with `Mirror`, the array with its devices: `Mirror::open` puts it together from its members, and the whole calls
-//! `read`, `write`, `resync`, `stop`, `rebuild` and `check_array` do with it what a caller wants done. Its methods are the
+//! `read`, `write`, `resync`, `stop`, `rebuild`, `salvage` and `check_array` do with it what a caller wants done. Its methods are the
 //! steps that these are made of, and tell of the array. `create` and `lay_out` make new members; `read_super` and
 //! `read_member` read one. Devices are a `FileDevice`, a `MemDevice`, or what you write of the trait `Device`; in tests a
 //! `FaultDevice`, whose calls fail where it is told, or a `StopDevice`, which stops at the write that its `Fuse` counts to.
@@ -69,7 +69,7 @@ pub use md_cert::{
     Certificate, ChunkList, NoMemory, Plan, Row, Slot, Slots, Table, Verdict, check,
 };
 pub use md_collect::{Board, Collector, Refusal, Report, Share, read_chunk};
-pub use md_copy::{Gate, RebuildFault, Rebuilt, rebuild, table};
+pub use md_copy::{Gate, RebuildFault, Rebuilt, Salvaged, rebuild, salvage, table};
 pub use md_plan::{Planned, plan};
 
 // Reports.

@@ -90,10 +90,18 @@ const COPY_DISK: &str =
 
 /// What to do about a source of a rebuild whose log is full.
 pub(crate) const LEAVE_SOURCE_OUT: &str =
-    "it can't be read in more places than its bad block log has room for: leave the image out, if another member is in sync; or copy the disk by ddrescue, which may get more of it, and use the copy with its map (`--map`), without which zeros would count as data";
+    "it can't be read in more places than its bad block log has room for: `rebuild --salvage` lists bad sectors alone; or leave the image out, if another member is in sync; or copy the disk by ddrescue, which may get more of it, and use the copy with its map (`--map`), without which zeros would count as data; or put out the array by `read --readonly --fill`, and make a new one of it by `create`";
 
 const NEW_LOG: &str =
-    "its bad block log has no room for the chunks that no member could give: `fail` and `remove` it, and `add` it again, which gives it a new log";
+    "its bad block log has no room for the chunks that no member could give: `rebuild --salvage` lists bad sectors alone; or `fail` and `remove` it, and `add` it again, which gives it a new log; or put out the array by `read --readonly --fill`, and make a new one of it by `create`";
+
+/// What to do about the log of the member that is salvaged, where it has no room for the sectors that are lost.
+pub(crate) const SALVAGE_WITH_NEW_LOG: &str =
+    "its bad block log has no room for the sectors that no member could give, or it has none: `fail` and `remove` it, and `add` it again, which gives it a new log; or put out the array by `read --readonly --fill`, and make a new one of it by `create`";
+
+/// What to do about a source of a salvage whose log has no room for the sectors that are lost.
+pub(crate) const SALVAGE_WITHOUT_SOURCE: &str =
+    "its bad block log has no room for the sectors that no member could give, or it has none: put out the array by `read --readonly --fill`, and make a new one of it by `create`; or copy the disk by ddrescue, which may get more of it, and use the copy with its map (`--map`), without which zeros would count as data; or leave the image out, if another member is in sync, and lose what it alone gives";
 
 const MAYBE_LOST: &str =
     "see why the device can't be written (`dmesg`, free space, write protection); what it held may be lost";

@@ -1,5 +1,7 @@
 // The line for people after a fault.
-use crate::advice::advice::{LEAVE_SOURCE_OUT, WRITE_A_FILE, advice};
+use crate::advice::advice::{
+    LEAVE_SOURCE_OUT, SALVAGE_WITH_NEW_LOG, SALVAGE_WITHOUT_SOURCE, WRITE_A_FILE, advice,
+};
 use crate::advice::geometry_advice::geometry_advice;
 use md_array::{AddFault, BeginFault, OpenFault, ReAddFault};
 use md_assembly::AssembleFault;
@@ -11,7 +13,7 @@ use md_examine::{Output, put_name};
 use md_images::{ImageFault, ImageRefusal, is_missing};
 use md_metadata::{GrowFault, StopFault};
 use md_resync::ResyncFault;
-use md_words::{Command, LongTask};
+use md_words::{Command, LongTask, Loss};
 use std::alloc::Global;
 use std::io::Write;
 
@@ -142,12 +144,19 @@ fn rebuilt_member(command: Command<'_>, names: &[&str]) -> Option<usize> {
     }
 }
 
-// What to do. Of a log that is full it depends on whether it is the target's, of an array that can't be made on the options,
-// and where there is no memory on whether an input is held there.
+// What to do. Of a log that is full it depends on whose it is and on what the rebuild lists, of an array that can't be made on the
+// options, and where there is no memory on whether an input is held there.
 fn what_to_do(fault: &CommandFault, names: &[&str], command: Command<'_>) -> &'static str {
     match fault {
-        CommandFault::Rebuild(RebuildFault::LogFull(device))
-            if rebuilt_member(command, names) != Some(*device) => { LEAVE_SOURCE_OUT }
+        CommandFault::Rebuild(RebuildFault::LogFull(device)) => {
+            let is_target = rebuilt_member(command, names) == Some(*device);
+            match (command.loss(), is_target) {
+                (Some(Loss::Sectors), true) => SALVAGE_WITH_NEW_LOG,
+                (Some(Loss::Sectors), false) => SALVAGE_WITHOUT_SOURCE,
+                (Some(Loss::Chunks) | None, true) => advice(fault),
+                (Some(Loss::Chunks) | None, false) => LEAVE_SOURCE_OUT,
+            }
+        }
         CommandFault::Create(CreateFault::BadGeometry) => match command {
             Command::Create(options) => geometry_advice(&options, names),
             _ => advice(fault),

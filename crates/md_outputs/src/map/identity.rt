@@ -5,7 +5,7 @@ use md_device::Device;
 use md_files::{FileDevice, MapText};
 use md_images::{Access, ImageFault};
 use md_members::{MemberFault, MemberInfo, read_member};
-use md_words::{Command, Request};
+use md_words::{ArrayCommand, Command, Request};
 use sha2::{Digest, Sha256};
 use std::alloc::AllocError;
 use std::fs::{self, File, Files};
@@ -73,12 +73,14 @@ fn opening_fault(place: usize, fault: ImageFault) -> IdentityFault {
 
 // What is asked for.
 fn options_line<R: AllocGlobal>(rt: &R, request: &Request<'_>) -> Result<String, AllocError> {
-    let Command::Read {
-        sector,
-        count,
-        fill,
-        ..
-    } = request.command
+    let Command::Array(
+        ArrayCommand::Read {
+            sector,
+            count,
+            fill,
+            ..
+        },
+    ) = request.command
     else {
         return Ok(String::new(rt.alloc()));
     };

@@ -1,5 +1,5 @@
 // What words name for a read that may go on.
-use md_words::{Command, Request};
+use md_words::{ArrayCommand, Command, Request};
 
 /// The names of the file and of its map, and the first sector, of words that ask for a read that may go on.
 #[derive(Clone, Copy)]
@@ -15,7 +15,7 @@ impl<'a> Names<'a> {
         let Ok(request) = parsed else {
             return None;
         };
-        let Command::Read { sector, .. } = request.command else {
+        let Command::Array(ArrayCommand::Read { sector, .. }) = request.command else {
             return None;
         };
         if !request.resume {

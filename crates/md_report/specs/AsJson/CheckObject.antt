@@ -13,6 +13,7 @@ use Rattle.md_check.specs.declared.found.Pair.{Pair}
 use Rattle.md_kept_members.specs.View.{MemberView}
 use Rattle.md_state.specs.View.{ArrayView}
 use Rattle.md_report.specs.AsJson.ArrayObjects.{members_fields}
+use Rattle.md_report.specs.AsJson.StandingLists.{bad_value}
 use Rattle.md_report.specs.AsJson.Objects.{Field, field, list_of, object_of, report_of, whole}
 
 -- The sectors of a chunk in the array.
@@ -70,9 +71,13 @@ chunk_list_fields chunks found =
     let differing = chunks_to found.chunks found.chunks.chunks in
     field (codes "mismatches") (list_of (chunk_object chunks found.pairs.items) differing) ∷ []
 
+-- what each member lists as bad: of those that were compared these sectors were left out
+unfoldable pub listed_fields : List MemberView → List Field
+listed_fields members = field (codes "bad_sectors") (list_of bad_value members) ∷ []
+
 -- the whole object
 abbrev pub check_object : Comparison → ArrayView → List (List ℕ) → Data
 check_object found a images =
     report_of (codes "check")
     (count_fields found.chunks ∷ chunk_list_fields a.chunks found ∷ members_fields a images
-    ∷ compared_fields a.members ∷ [])
+    ∷ compared_fields a.members ∷ listed_fields a.members ∷ [])

@@ -6,11 +6,12 @@ ghost use Rattle.serde_json.specs.Written.{comma_if, compact_text};
 ghost use Rattle.md_bitmap.specs.Marks.{is_set};
 ghost use Rattle.md_check.specs.Differences.{IsSized};
 ghost use Rattle.md_examine.specs.Sink.{PutsOrFails};
-ghost use Rattle.md_report.specs.AsJson.CheckObject.{check_object, chunk_list_fields, chunk_object, chunks_to, compared_fields, compared_to, count_fields, pair_value, pairs_in, run_of_chunk};
+ghost use Rattle.md_report.specs.AsJson.CheckObject.{check_object, chunk_list_fields, chunk_object, chunks_to, compared_fields, compared_to, count_fields, listed_fields, pair_value, pairs_in, run_of_chunk};
 ghost use Rattle.md_report.specs.AsJson.MemberObjects.{texts_of};
 ghost use Rattle.md_report.specs.AsJson.Objects.{elements_text, later_text, object_line, list_of, next_text, whole};
 
 use crate::as_json::member_objects::members;
+use crate::as_json::standing_lists::bad_sectors;
 use crate::as_json::values::{
     chosen_number, close, comma_if, next_key, next_number, number, open, open_number, stands_before,
 };
@@ -22,8 +23,8 @@ use md_device::Device;
 use md_examine::{Sink, SinkFault};
 
 /// Writes a check as an object, alone in its line: in how many chunks members in sync differ, of each of these the
-/// sectors and the pairs of members that differ there, the members, of which `images` are the names, and the indices of those
-/// that were compared. It takes no memory, and fails only where the sink has failed.
+/// sectors and the pairs of members that differ there, the members, of which `images` are the names, the indices of those
+/// that were compared, and what each member lists as bad. It takes no memory, and fails only where the sink has failed.
 pub fn check_json<S: Sink, D: Device + Drop>(
     out: &mut S,
     found: &Comparison,
@@ -39,7 +40,20 @@ pub fn check_json<S: Sink, D: Device + Drop>(
     chunk_list(out, mirror.chunks(), found)?;
     members(out, mirror, images)?;
     compared_members(out, mirror)?;
+    listed_sectors(out, mirror)?;
     close(out)?;
+    Ok(())
+}
+
+// What each member lists as bad: of those that were compared these sectors were left out.
+fn listed_sectors<S: Sink, D: Device + Drop>(
+    out: &mut S,
+    mirror: &Mirror<D>,
+) -> Result<(), SinkFault>
+    ensures { PutsOrFails S.contents S.failed out.old out.new
+        (later_text (listed_fields mirror.now.array.members)) result }
+{
+    bad_sectors(out, mirror)?;
     Ok(())
 }
 

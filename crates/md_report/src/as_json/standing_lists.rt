@@ -125,7 +125,11 @@ fn is_apart<D: Device + Drop>(mirror: &Mirror<D>, k: usize) -> bool
     is_parted(mirror, k)
 }
 
-fn bad_sectors<S: Sink, D: Device + Drop>(out: &mut S, mirror: &Mirror<D>) -> Result<(), SinkFault>
+/// What each member lists as bad.
+pub(crate) fn bad_sectors<S: Sink, D: Device + Drop>(
+    out: &mut S,
+    mirror: &Mirror<D>,
+) -> Result<(), SinkFault>
     ensures { PutsOrFails S.contents S.failed out.old out.new
         (next_text (codes "bad_sectors") (compact_text (list_of bad_value mirror.now.array.members))) result }
 {

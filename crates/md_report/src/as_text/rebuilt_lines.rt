@@ -34,7 +34,8 @@ fn plan_reports<S: Sink>(out: &mut S, plans: &[Planned]) -> Result<(), SinkFault
     Ok(())
 }
 
-fn planned_report<S: Sink>(out: &mut S, planned: &Planned) -> Result<(), SinkFault>
+/// Writes the plan of a pass.
+pub(crate) fn planned_report<S: Sink>(out: &mut S, planned: &Planned) -> Result<(), SinkFault>
     ensures { PutsOrFails S.contents S.failed out.old out.new (planned_text planned.now) result }
 {
     let orphans = planned.orphans.as_slice();

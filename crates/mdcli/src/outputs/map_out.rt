@@ -5,7 +5,7 @@ use md_files::{MapOutFault, map_out_advice, write_map_of_read};
 use md_messages::Messages;
 use md_outputs::MadeFile;
 use md_read_commands::Gaps;
-use md_words::{Command, Request};
+use md_words::{ArrayCommand, Command, Request};
 use std::io::{self, ErrorKind, Write};
 
 /// A file that a read makes: ddrescue's map of the array, up to the last sector that is read.
@@ -25,7 +25,7 @@ impl<'a> MapOut<'a> {
     }
 
     fn of(request: &Request<'a>) -> Option<MapOut<'a>> {
-        let Command::Read { sector, .. } = request.command else {
+        let Command::Array(ArrayCommand::Read { sector, .. }) = request.command else {
             return None;
         };
         if request.resume {

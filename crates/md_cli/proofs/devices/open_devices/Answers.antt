@@ -1,24 +1,216 @@
-use Rattle.std.proofs.Common.{◌≡◌, ◌++◌, ◌∷◌, [], Some, inl, map, rules}
-use Rattle.std.specs.Prelude.{is_some, true}
+use Rattle.std.proofs.Common.{◌≡◌, ◌∙◌, ◌+◌, ◌≤◌, Bool, Ok, true, ap, arith, inl, inr, length, map, option_map, refl, subst, sym}
+use Rattle.std.specs.Prelude.{vec_capacity}
+use Rattle.std.proofs.lemmas.List.{length-map}
 use Rattle.md_state.specs.View.{disk_of}
-use Rattle.md_words.specs.Asks.{ask_of, device_to_add}
-use Rattle.md_cli.proofs.Joined.{last_of}
+use Rattle.md_words.specs.Asks.{array_ask}
+use Rattle.md_messages.specs.Noticed.{with_dropped}
+use Rattle.md_messages.specs.Telling.{texts}
+use Rattle.md_messages.specs.Question.{question}
+use Rattle.md_cli.specs.Opened.{count, moves_device, opened_view}
+use Rattle.md_cli.specs.Streams.{streams_of}
+use Rattle.md_cli.proofs.Performed.{all_kept, as_many_back, as_many_left, performs_asked, refused_back, room_back, room_left, shown_back, there_same, within_back, within_left}
+use Rattle.md_cli.proofs.Worked.{refused_as_many}
 use Rattle.md_cli.proofs.devices.open_devices.Goals as goal
 
-pub returns-in-Some-pop-clause-gives : goal.returns-in-Some-pop-clause-gives
-returns-in-Some-pop-clause-gives g c =
-    let disk = disk_of g.D.Device in
-    let members = c.pop.new.self.items in
-    let device = c.in-Some-pop.device in
-    let are : c.args.devices.items ≡ members ++ device ∷ [] = c.in-Some-pop.ensures.items in
-    let brings : true ≡ is_some (device_to_add (ask_of c.args.command)) = search rules in
+pub let_go-requires-clause-room : goal.let_go-requires-clause-room
+let_go-requires-clause-room g c =
+    let d = g.D.Device in
+    let ask = array_ask c.args.command in
+    let names = texts c.args.names.now in
+    let taken = c.take_beside-beside in
+    let new = c.perform-done.new.opened in
+    let mirror = c.in-Ok-open.mirror in
+    let many : length mirror.disks ≡ length taken.new.devices.items = c.in-Ok-open.ensures.gives.marked.same.as_many ∙ length-map taken.new.devices.items (disk_of d) in
+    let performs = performs_asked g.R.Source g.S.Sink names (record { mirror = mirror; beside = option_map (disk_of d) taken.result }) (opened_view d new) (streams_of c.args.session.now) (streams_of c.perform-done.new.session) c.ask_first.new.asker c.perform-done.result ask c.perform-done.ensures.performs in
+    let back = all_kept g.R.Source g.S.Sink names (record { mirror = mirror; beside = option_map (disk_of d) taken.result }) (opened_view d new) (streams_of c.args.session.now) (streams_of c.perform-done.new.session) ask c.perform-done.result (there_same (disk_of d) taken.result ∙ taken.ensures.brings) performs in
+    let enough : moves_device ask ≡ true → length taken.new.devices.items + count taken.result ≤ vec_capacity c.in-Ok.list = λ moves. omega (arith, c.in-Ok.ensures.room moves, c.len.ensures, taken.ensures.as_many) in
+    room_left d ask taken.new.devices.items taken.result new.beside mirror.disks new.mirror.disks many back _ enough
+
+pub let_go-requires-clause-within : goal.let_go-requires-clause-within
+let_go-requires-clause-within g c =
+    let d = g.D.Device in
+    let ask = array_ask c.args.command in
+    let names = texts c.args.names.now in
+    let taken = c.take_beside-beside in
+    let new = c.perform-done.new.opened in
+    let mirror = c.in-Ok-open.mirror in
+    let many : length mirror.disks ≡ length taken.new.devices.items = c.in-Ok-open.ensures.gives.marked.same.as_many ∙ length-map taken.new.devices.items (disk_of d) in
+    let performs = performs_asked g.R.Source g.S.Sink names (record { mirror = mirror; beside = option_map (disk_of d) taken.result }) (opened_view d new) (streams_of c.args.session.now) (streams_of c.perform-done.new.session) c.ask_first.new.asker c.perform-done.result ask c.perform-done.ensures.performs in
+    let back = all_kept g.R.Source g.S.Sink names (record { mirror = mirror; beside = option_map (disk_of d) taken.result }) (opened_view d new) (streams_of c.args.session.now) (streams_of c.perform-done.new.session) ask c.perform-done.result (there_same (disk_of d) taken.result ∙ taken.ensures.brings) performs in
+    within_left d ask taken.new.devices.items taken.result new.beside mirror.disks new.mirror.disks many back
+
+pub returns-in-Ok-ask_first-clause-as_many : goal.returns-in-Ok-ask_first-clause-as_many
+returns-in-Ok-ask_first-clause-as_many g c =
+    let d = g.D.Device in
+    let ask = array_ask c.args.command in
+    let names = texts c.args.names.now in
+    let taken = c.take_beside-beside in
+    let new = c.perform-done.new.opened in
+    let mirror = c.in-Ok-open.mirror in
+    let many : length mirror.disks ≡ length taken.new.devices.items = c.in-Ok-open.ensures.gives.marked.same.as_many ∙ length-map taken.new.devices.items (disk_of d) in
+    let performs = performs_asked g.R.Source g.S.Sink names (record { mirror = mirror; beside = option_map (disk_of d) taken.result }) (opened_view d new) (streams_of c.args.session.now) (streams_of c.perform-done.new.session) c.ask_first.new.asker c.perform-done.result ask c.perform-done.ensures.performs in
+    let back = all_kept g.R.Source g.S.Sink names (record { mirror = mirror; beside = option_map (disk_of d) taken.result }) (opened_view d new) (streams_of c.args.session.now) (streams_of c.perform-done.new.session) ask c.perform-done.result (there_same (disk_of d) taken.result ∙ taken.ensures.brings) performs in
+    as_many_left d ask taken.new.devices.items taken.result new.beside mirror.disks new.mirror.disks many back c.let_go.result.items c.let_go.ensures.all ∙ taken.ensures.as_many
+
+pub returns-in-Ok-ask_first-clause-gives : goal.returns-in-Ok-ask_first-clause-gives
+returns-in-Ok-ask_first-clause-gives g c =
+    let d = g.D.Device in
+    let ask = array_ask c.args.command in
+    let names = texts c.args.names.now in
+    let taken = c.take_beside-beside in
+    let new = c.perform-done.new.opened in
+    let mirror = c.in-Ok-open.mirror in
+    let many : length mirror.disks ≡ length taken.new.devices.items = c.in-Ok-open.ensures.gives.marked.same.as_many ∙ length-map taken.new.devices.items (disk_of d) in
+    let performs = performs_asked g.R.Source g.S.Sink names (record { mirror = mirror; beside = option_map (disk_of d) taken.result }) (opened_view d new) (streams_of c.args.session.now) (streams_of c.perform-done.new.session) c.ask_first.new.asker c.perform-done.result ask c.perform-done.ensures.performs in
+    let back = all_kept g.R.Source g.S.Sink names (record { mirror = mirror; beside = option_map (disk_of d) taken.result }) (opened_view d new) (streams_of c.args.session.now) (streams_of c.perform-done.new.session) ask c.perform-done.result (there_same (disk_of d) taken.result ∙ taken.ensures.brings) performs in
     inl (record {
-      members = map disk members;
-      device = Some (disk device);
-      seen = Some (disk c.note_held.new.device);
-      noted = c.note_held.new.self;
-      are = last_of g.D.Device c.args.devices.items members device are;
-      brings = brings;
-      looks = c.note_held.ensures;
-      done = c.open_members-in-Some.ensures.gives;
+      members = map (disk_of d) taken.new.devices.items;
+      device = taken.ensures.takes.device;
+      seen = option_map (disk_of d) taken.result;
+      noted = taken.new.notices;
+      are = taken.ensures.takes.are;
+      brings = taken.ensures.takes.brings;
+      looks = taken.ensures.takes.looks;
+      done = inl (record {
+        opened = mirror;
+        opens = c.in-Ok-open.ensures.gives;
+        first = c.note.new.self;
+        noted = c.note.ensures;
+        left = opened_view d new;
+        performs = inl (record {
+          agreed = subst (λ asker. question g.A.Asker ask names c.note.new.self c.args.session.now.asker asker (Ok tt)) (sym c.perform-done.ensures.unasked) c.in-Ok-ask_first.ensures;
+          performs = performs;
+          noted = c.perform-done.ensures.noted;
+          counted = c.perform-done.ensures.counted;
+        });
+        dropped = c.let_go.ensures.dropped ∙ ap (λ (left : Bool). with_dropped ask new.mirror.array left c.note.new.self) (sym (there_same (disk_of d) new.beside));
+        devices = c.let_go.ensures.all;
+      });
+    })
+
+-- the command is declined
+pub let_go-requires-in-Err-ask_first-clause-room : goal.let_go-requires-in-Err-ask_first-clause-room
+let_go-requires-in-Err-ask_first-clause-room g c =
+    let d = g.D.Device in
+    let ask = array_ask c.args.command in
+    let names = texts c.args.names.now in
+    let taken = c.take_beside-beside in
+    let mirror = c.in-Ok-open.mirror in
+    let many : length mirror.disks ≡ length taken.new.devices.items = c.in-Ok-open.ensures.gives.marked.same.as_many ∙ length-map taken.new.devices.items (disk_of d) in
+    let back = refused_back ask mirror.disks mirror.disks (option_map (disk_of d) taken.result) (there_same (disk_of d) taken.result ∙ taken.ensures.brings) refl in
+    let enough : moves_device ask ≡ true → length taken.new.devices.items + count taken.result ≤ vec_capacity c.in-Ok.list = λ moves. omega (arith, c.in-Ok.ensures.room moves, c.len.ensures, taken.ensures.as_many) in
+    room_left d ask taken.new.devices.items taken.result taken.result mirror.disks mirror.disks many back _ enough
+
+pub let_go-requires-in-Err-ask_first-clause-within : goal.let_go-requires-in-Err-ask_first-clause-within
+let_go-requires-in-Err-ask_first-clause-within g c =
+    let d = g.D.Device in
+    let ask = array_ask c.args.command in
+    let names = texts c.args.names.now in
+    let taken = c.take_beside-beside in
+    let mirror = c.in-Ok-open.mirror in
+    let many : length mirror.disks ≡ length taken.new.devices.items = c.in-Ok-open.ensures.gives.marked.same.as_many ∙ length-map taken.new.devices.items (disk_of d) in
+    let back = refused_back ask mirror.disks mirror.disks (option_map (disk_of d) taken.result) (there_same (disk_of d) taken.result ∙ taken.ensures.brings) refl in
+    within_left d ask taken.new.devices.items taken.result taken.result mirror.disks mirror.disks many back
+
+pub returns-in-Err-ask_first-clause-as_many : goal.returns-in-Err-ask_first-clause-as_many
+returns-in-Err-ask_first-clause-as_many g c =
+    let d = g.D.Device in
+    let ask = array_ask c.args.command in
+    let names = texts c.args.names.now in
+    let taken = c.take_beside-beside in
+    let mirror = c.in-Ok-open.mirror in
+    let many : length mirror.disks ≡ length taken.new.devices.items = c.in-Ok-open.ensures.gives.marked.same.as_many ∙ length-map taken.new.devices.items (disk_of d) in
+    let back = refused_back ask mirror.disks mirror.disks (option_map (disk_of d) taken.result) (there_same (disk_of d) taken.result ∙ taken.ensures.brings) refl in
+    as_many_left d ask taken.new.devices.items taken.result taken.result mirror.disks mirror.disks many back c.let_go-in-Err-ask_first.result.items c.let_go-in-Err-ask_first.ensures.all ∙ taken.ensures.as_many
+
+pub returns-in-Err-ask_first-clause-gives : goal.returns-in-Err-ask_first-clause-gives
+returns-in-Err-ask_first-clause-gives g c =
+    let d = g.D.Device in
+    let ask = array_ask c.args.command in
+    let names = texts c.args.names.now in
+    let taken = c.take_beside-beside in
+    let mirror = c.in-Ok-open.mirror in
+    let many : length mirror.disks ≡ length taken.new.devices.items = c.in-Ok-open.ensures.gives.marked.same.as_many ∙ length-map taken.new.devices.items (disk_of d) in
+    let back = refused_back ask mirror.disks mirror.disks (option_map (disk_of d) taken.result) (there_same (disk_of d) taken.result ∙ taken.ensures.brings) refl in
+    inl (record {
+      members = map (disk_of d) taken.new.devices.items;
+      device = taken.ensures.takes.device;
+      seen = option_map (disk_of d) taken.result;
+      noted = taken.new.notices;
+      are = taken.ensures.takes.are;
+      brings = taken.ensures.takes.brings;
+      looks = taken.ensures.takes.looks;
+      done = inl (record {
+        opened = mirror;
+        opens = c.in-Ok-open.ensures.gives;
+        first = c.note.new.self;
+        noted = c.note.ensures;
+        left = record { mirror = mirror; beside = option_map (disk_of d) taken.result };
+        performs = inr (record { why = c.in-Err-ask_first.fault; is = refl; declined = c.in-Err-ask_first.ensures; same = refl; unused = refl });
+        dropped = c.let_go-in-Err-ask_first.ensures.dropped ∙ ap (λ (left : Bool). with_dropped ask mirror.array left c.note.new.self) (sym (there_same (disk_of d) taken.result));
+        devices = c.let_go-in-Err-ask_first.ensures.all;
+      });
+    })
+
+-- the members make no array
+pub all_back-devices-requires-clause-room : goal.all_back-devices-requires-clause-room
+all_back-devices-requires-clause-room g c =
+    let d = g.D.Device in
+    let ask = array_ask c.args.command in
+    let names = texts c.args.names.now in
+    let taken = c.take_beside-beside in
+    let before = map (disk_of d) taken.new.devices.items in
+    let after = map (disk_of d) c.in-Err.members.items in
+    let many = length-map taken.new.devices.items (disk_of d) in
+    let back = refused_back ask before after (option_map (disk_of d) taken.result) (there_same (disk_of d) taken.result ∙ taken.ensures.brings) (refused_as_many before after c.in-Err.fault c.in-Err.ensures.gives) in
+    let enough : moves_device ask ≡ true → length taken.new.devices.items + count taken.result ≤ vec_capacity c.in-Ok.list = λ moves. omega (arith, c.in-Ok.ensures.room moves, c.len.ensures, taken.ensures.as_many) in
+    room_back d ask taken.new.devices.items c.in-Err.members.items taken.result taken.result before after many refl back _ enough
+
+pub all_back-devices-requires-clause-within : goal.all_back-devices-requires-clause-within
+all_back-devices-requires-clause-within g c =
+    let d = g.D.Device in
+    let ask = array_ask c.args.command in
+    let names = texts c.args.names.now in
+    let taken = c.take_beside-beside in
+    let before = map (disk_of d) taken.new.devices.items in
+    let after = map (disk_of d) c.in-Err.members.items in
+    let many = length-map taken.new.devices.items (disk_of d) in
+    let back = refused_back ask before after (option_map (disk_of d) taken.result) (there_same (disk_of d) taken.result ∙ taken.ensures.brings) (refused_as_many before after c.in-Err.fault c.in-Err.ensures.gives) in
+    within_back d ask taken.new.devices.items c.in-Err.members.items taken.result taken.result before after many refl back
+
+pub returns-in-Err-clause-as_many : goal.returns-in-Err-clause-as_many
+returns-in-Err-clause-as_many g c =
+    let d = g.D.Device in
+    let ask = array_ask c.args.command in
+    let names = texts c.args.names.now in
+    let taken = c.take_beside-beside in
+    let before = map (disk_of d) taken.new.devices.items in
+    let after = map (disk_of d) c.in-Err.members.items in
+    let many = length-map taken.new.devices.items (disk_of d) in
+    let back = refused_back ask before after (option_map (disk_of d) taken.result) (there_same (disk_of d) taken.result ∙ taken.ensures.brings) (refused_as_many before after c.in-Err.fault c.in-Err.ensures.gives) in
+    as_many_back d ask taken.new.devices.items c.in-Err.members.items taken.result taken.result before after many refl back c.all_back-devices.result.items c.all_back-devices.ensures ∙ taken.ensures.as_many
+
+pub returns-in-Err-clause-gives : goal.returns-in-Err-clause-gives
+returns-in-Err-clause-gives g c =
+    let d = g.D.Device in
+    let ask = array_ask c.args.command in
+    let names = texts c.args.names.now in
+    let taken = c.take_beside-beside in
+    let before = map (disk_of d) taken.new.devices.items in
+    let after = map (disk_of d) c.in-Err.members.items in
+    let many = length-map taken.new.devices.items (disk_of d) in
+    let back = refused_back ask before after (option_map (disk_of d) taken.result) (there_same (disk_of d) taken.result ∙ taken.ensures.brings) (refused_as_many before after c.in-Err.fault c.in-Err.ensures.gives) in
+    inl (record {
+      members = map (disk_of d) taken.new.devices.items;
+      device = taken.ensures.takes.device;
+      seen = option_map (disk_of d) taken.result;
+      noted = taken.new.notices;
+      are = taken.ensures.takes.are;
+      brings = taken.ensures.takes.brings;
+      looks = taken.ensures.takes.looks;
+      done = inr (record {
+        left = after;
+        refused = record { fault = c.in-Err.fault; is = refl; refused = c.in-Err.ensures.gives; unused = refl };
+        devices = shown_back d ask taken.new.devices.items c.in-Err.members.items taken.result taken.result before after many refl back c.all_back-devices.result.items c.all_back-devices.ensures;
+      });
     })

@@ -2,7 +2,7 @@ use Rattle.std.proofs.Common.{◌≡◌, ◌∙◌, List, [], ◌∷◌, ℕ, ma
 use Rattle.md_members.specs.Reading.{CallFails}
 use Rattle.std.specs.Borrow.{Bor}
 use Rattle.std.specs.Prelude.{slice_index_or}
-use Rattle.md_words.specs.Asks.{ask_of}
+use Rattle.md_words.specs.Asks.{image_ask}
 use Rattle.md_examine_commands.specs.Examining.{ExaminesOne, RefusedBy, ShownBy}
 use Rattle.md_examine_commands.proofs.Reported.{flushed}
 use Rattle.md_examine_commands.proofs.examining.examine_images.Goals as goal
@@ -18,7 +18,7 @@ pub returns-clause-one : goal.returns-clause-one
 returns-clause-one g c = λ name is.
     let at = g.I.Images.device_at in
     let known = g.I.Images.known c.args.images.now in
-    subst (λ (n : List ℕ). ExaminesOne (ask_of c.args.command) g.I.Dev.Device g.S.Sink known (at c.args.images.now) (at c.put.new.self) n c.args.out.now c.show-result.new.out c.show-result.result) (only_name c.args.names.now name is)
+    subst (λ (n : List ℕ). ExaminesOne (image_ask c.args.command) g.I.Dev.Device g.S.Sink known (at c.args.images.now) (at c.put.new.self) n c.args.out.now c.show-result.new.out c.show-result.result) (only_name c.args.names.now name is)
     (inl (record {
       taken = c.in-Ok.device;
       given = c.show-result.new.device;
@@ -33,7 +33,7 @@ returns-clause-one g c = λ name is.
 pub returns-clause-flushed : goal.returns-clause-flushed
 returns-clause-flushed g c =
     let d = g.I.Dev.Device in
-    let ask = ask_of c.args.command in
+    let ask = image_ask c.args.command in
     let was = c.in-Ok.device in
     let call = c.show-result in
     let Failed = CallFails d was call.new.device in

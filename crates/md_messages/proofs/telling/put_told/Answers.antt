@@ -6,4 +6,5 @@ pub returns : goal.returns
 unfolding told_text
 returns g c =
     let listed = puts_then g.S.Sink.contents g.S.Sink.failed c.in_ok-put_noticed.ensures c.in_ok-put_all_listed.ensures in
-    puts_then g.S.Sink.contents g.S.Sink.failed (puts_then g.S.Sink.contents g.S.Sink.failed listed c.in_ok-put_uncompared.ensures) c.in_ok-put_lost.ensures
+    let lost = puts_then g.S.Sink.contents g.S.Sink.failed listed c.in_ok-put_loss.ensures in
+    puts_then g.S.Sink.contents g.S.Sink.failed (puts_then g.S.Sink.contents g.S.Sink.failed lost c.in_ok-put_uncompared.ensures) c.in_ok-put_lost.ensures
