@@ -31,6 +31,6 @@ pub use chunk_list::ChunkList;
 pub use no_memory::NoMemory;
 pub use plan::{Certificate, Plan};
 pub use slots::{Slot, Slots};
-pub use sources::{has_source, source_count};
+pub use sources::has_source;
 pub use table::{Row, Table};
 pub use verdict::Verdict;

@@ -9,8 +9,8 @@ pub fn has_source(mask: u32, source: u32) -> bool
     source < 32 && (mask >> source) & 1 == 1
 }
 
-/// How many sources a mask has.
-pub fn source_count(mask: u32) -> u32
+// How many sources a mask has.
+pub(crate) fn source_count(mask: u32) -> u32
     ensures { result ≡ count_sources (has mask) }
 {
     let mut count = 0;

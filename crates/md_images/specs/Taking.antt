@@ -1,8 +1,10 @@
 -- The devices that stand under the image words: how they are taken out, and put back.
-use Rattle.std.specs.Prelude.{◌≡◌, ◌≢◌, ℕ, ◌<◌, ◌&&◌, Bool, true, not, List, [], codes, length, map, Option, None, slice_get, slice_index_or}
+use Rattle.std.specs.Prelude.{◌≡◌, ◌≢◌, ℕ, ◌<◌, ◌&&◌, Bool, true, false, not, List, [], codes, length, map, Option, None, slice_get, slice_index_or}
 use Rattle.std.specs.List.{filter, range_with_len}
 use Rattle.std.specs.Str.{bytes_eq}
 use Rattle.md_images.specs.declared.image_word.ImageWord.{ImageWord}
+use Rattle.md_images.specs.declared.image_word.MissingWord.{MissingWord}
+use Rattle.md_images.specs.declared.image_word.MissingWord.TheVariants.{NamesAnImage, StandsForAMember}
 use Rattle.md_images.specs.declared.fault.ImagesFault.{ImagesFault}
 use Rattle.md_images.specs.declared.fault.ImagesFault.TheVariants.{BadImage, NoMemory}
 use Rattle.md_images.specs.declared.image_refusal.ImageRefusal.{ImageRefusal}
@@ -22,6 +24,10 @@ word_of w = (w.index, w.name.now)
 
 abbrev pub names_of : List Word → List Text
 names_of = map (λ w. w.1)
+
+abbrev pub may_miss : MissingWord → Bool
+may_miss NamesAnImage = false
+may_miss StandsForAMember = true
 
 -- in `create` this word stands for a missing member, and names no image
 abbrev pub is_missing_word : Bool → Text → Bool

@@ -5,7 +5,7 @@
 //! none.
 //!
 //! ```
-//! let words = image_list(alloc, &["sda.img", "sdb.img"], false)?;
+//! let words = image_list(alloc, &["sda.img", "sdb.img"], MissingWord::NamesAnImage)?;
 //! let devices = take_images(alloc, Access::Look, &mut images, &words)?;
 //! put_back(&mut images, &words, devices);
 //! ```
@@ -30,7 +30,7 @@ pub use access::Access;
 pub use fault::ImagesFault;
 pub use image_fault::ImageFault;
 pub use image_refusal::ImageRefusal;
-pub use image_word::{ImageWord, image_list, is_missing};
+pub use image_word::{ImageWord, MissingWord, image_list, is_missing};
 pub use images::Images;
 pub use memory_images::MemImages;
 pub use overlays::lay_over;
