@@ -1,4 +1,5 @@
 use Rattle.md_copy.proofs.SalvageLaws.SalvageLeads.{salvage_leads}
+use Rattle.md_copy.proofs.SalvageLaws.UnlistedLeads.{unlisted_leads}
 use Rattle.md_copy.proofs.SalvageLaws.UnsalvagedLeads.{unsalvaged_leads}
 use Rattle.md_copy.proofs.salvaging.laws.salvage_events.Goals as goal
 
@@ -6,4 +7,5 @@ pub returns : goal.returns
 returns c = record {
   done = salvage_leads;
   refused = unsalvaged_leads;
+  full = unlisted_leads;
 }
