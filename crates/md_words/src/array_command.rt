@@ -102,7 +102,15 @@ impl<'a> ArrayCommand<'a> {
             | ArrayCommand::Read { .. }
             | ArrayCommand::Serve { .. }
             | ArrayCommand::Check { .. } => Access::ChangeOrLook,
-            _ => Access::Change,
+            ArrayCommand::ServeWritable
+            | ArrayCommand::Write { .. }
+            | ArrayCommand::Resync
+            | ArrayCommand::Stop { .. }
+            | ArrayCommand::Fail { .. }
+            | ArrayCommand::Remove { .. }
+            | ArrayCommand::Add { .. }
+            | ArrayCommand::ReAdd { .. }
+            | ArrayCommand::Rebuild { .. } => Access::Change,
         }
     }
 
@@ -117,7 +125,15 @@ impl<'a> ArrayCommand<'a> {
             ArrayCommand::Read { readonly, .. } => readonly,
             ArrayCommand::Serve { .. } => true,
             ArrayCommand::Check { readonly, .. } => readonly,
-            _ => false,
+            ArrayCommand::ServeWritable
+            | ArrayCommand::Write { .. }
+            | ArrayCommand::Resync
+            | ArrayCommand::Stop { .. }
+            | ArrayCommand::Fail { .. }
+            | ArrayCommand::Remove { .. }
+            | ArrayCommand::Add { .. }
+            | ArrayCommand::ReAdd { .. }
+            | ArrayCommand::Rebuild { .. } => false,
         }
     }
 

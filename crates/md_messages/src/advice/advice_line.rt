@@ -124,7 +124,7 @@ fn path_of<'a>(culprit: Culprit, names: &[&'a str], command: Command<'a>) -> Opt
         Culprit::Word(word) => image_at(word, command, names),
         Culprit::Device(device) => {
             let may_miss = matches!(command, Command::Create(_));
-            let mut images = names.iter().filter(|name| !is_missing(may_miss, name));
+            let mut images = names.iter().filter(|name| !(may_miss && is_missing(name)));
             images.nth(device).copied()
         }
         Culprit::Staying(device) => image_at(place_of(device, command), command, names),

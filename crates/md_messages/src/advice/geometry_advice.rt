@@ -32,7 +32,7 @@ pub(crate) fn geometry_advice(options: &CreateOptions<'_>, names: &[&str]) -> &'
     if options.raid_devices == 0 || options.raid_devices > MOST_MEMBERS {
         return MEMBERS;
     }
-    if names.iter().all(|name| is_missing(true, name)) {
+    if names.iter().all(|name| is_missing(name)) {
         return NONE_THERE;
     }
     if lacks_write_mostly(options, names) {
@@ -54,7 +54,7 @@ fn lacks_write_mostly(options: &CreateOptions<'_>, names: &[&str]) -> bool {
     match options.write_mostly {
         None => false,
         Some(role) => match names.get(role as usize) {
-            Some(name) => is_missing(true, name),
+            Some(name) => is_missing(name),
             None => true,
         },
     }

@@ -16,7 +16,7 @@ pub struct Look {
 }
 
 /// An empty list that has room for all signatures.
-pub fn signature_list(alloc: Global) -> Result<Vec<Signature>, AllocError>
+pub(crate) fn signature_list(alloc: Global) -> Result<Vec<Signature>, AllocError>
     ensures { IfOk result (λ found. (found.items ≡ []) × (length signatures ≤ vec_capacity found)) }
 {
     Vec::with_capacity(alloc, SIGNATURES.len())

@@ -16,5 +16,6 @@ mod read_sector;
 mod signature;
 mod table;
 
-pub use finding::{Look, find_signatures, signature_list};
+pub(crate) use finding::signature_list;
+pub use finding::{Look, find_signatures};
 pub use signature::{SIGNATURES, Signature};
