@@ -14,6 +14,11 @@ TOP = Path(__file__).resolve().parent.parent
 LAUNCHER = TOP / "mdcli"
 PROGRAM = TOP / "crates" / "mdcli" / "out" / "mdcli"
 
+# What a first use reads of the repository, the sources for their sum, and what an installation reads beside it.
+TAKEN = ("mdcli", "crates.txt", "HANDLES", "tools", "dist", "examples")
+INSTALLED = ("man", "completions", "docs", "LICENSE", "README.md", "CHANGELOG.md")
+PARTS = ("src", "specs", "proofs")
+
 
 def leave_terminal():
     """Gives up the terminal that controls this process, if one does, so that the programs which it starts ask nobody: a
@@ -78,6 +83,17 @@ def library_of(source, folder):
     if not shutil.which("cc") or subprocess.run(words, stdin=subprocess.DEVNULL).returncode != 0:
         return None
     return library
+
+
+def copy_of_the_repository(top):
+    """What a clone has for those who use the program, without one that was built or unpacked."""
+    top.mkdir()
+    for name in TAKEN + INSTALLED:
+        source = TOP / name
+        (shutil.copytree if source.is_dir() else shutil.copy2)(str(source), str(top / name))
+    for folder in (TOP / "crates").glob("*/*"):
+        if folder.name in PARTS:
+            shutil.copytree(str(folder), str(top / "crates" / folder.parent.name / folder.name))
 
 
 def require_program(option="--if-missing"):

@@ -58,6 +58,26 @@ is_said_program() {
   said=$(said_in_dist "$1" program) && sum=$(sha256sum) && [ -n "$said" ] && [ "$said" = "${sum%% *}" ]
 }
 
+# sources_of TOP PROGRAM OLDER: prints the sum over the sources that the program was built from. Where it is the program of dist/
+# that is what dist/ says, and else the sum over the sources as they stand; of one that is OLDER than these nothing.
+sources_of() {
+  if has_dist "$1" && is_said_program "$1" <"$2"; then
+    said_in_dist "$1" sources
+  elif [ -z "$3" ]; then
+    sum_of_sources "$1"
+  fi
+}
+
+# tell_version PROGRAM SUM: says where the program itself says it, on standard error, its version, and the sum over its sources,
+# if that is known. The program can't have it within, as it is over all that the program is built from.
+tell_version() {
+  local said status
+  said=$("$1" --version 2>&1 </dev/null)
+  status=$?
+  printf '%s\n' "$said${2:+ (sources $2)}" >&2
+  return "$status"
+}
+
 # unpack_whole TOP TIME: unpacks the program of dist/ to out/mdcli. It gets its name once its bytes are those that dist/ says,
 # and it may be run there; else, and where this is stopped by a signal, nothing of it is left.
 unpack_whole() (
