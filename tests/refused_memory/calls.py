@@ -14,6 +14,7 @@ WITHIN = {
     "md_array::Mirror::enrol": "md_copy::rebuild",
     "md_array::Mirror::enrol_but_for": "md_copy::salvage",
     "md_array::Mirror::note_bad_sectors": "md_copy::salvage",
+    "md_array::Mirror::regard_as_bad": "md_cli::run",
     "md_copy::sectors_to_list": "md_copy::salvage",
     "md_assembly::assemble": "md_array::Mirror::open",
     "md_check::compare_members": "md_commands::list_mismatches",
@@ -41,6 +42,7 @@ WITHIN = {
     "md_resync::make_agree": "md_resync::resync",
     "md_state::Array::note_bad": "md_array::Mirror::note_bad",
     "md_state::Array::note_bad_sectors": "md_array::Mirror::note_bad_sectors",
+    "md_state::Array::regard_as_bad": "md_array::Mirror::regard_as_bad",
     "md_state::Array::member_but_for": "md_array::Mirror::enrol_but_for",
     "md_state::Array::check_add": "md_array::Mirror::add",
     "md_state::Array::missing": "md_array::Mirror::missing",
@@ -141,8 +143,6 @@ ANSWERS = {
     "md_read_commands::read_array_readonly": "read --readonly",
     "md_read_commands::serve_array": "serve --readonly",
     "md_serve_commands::serve_writable": "serve",
-    # Whoever has no memory for it goes on, and says that nobody looked.
-    "md_notices::signature_list": "add, unseen",
 }
 
 # A command that answers `NoMemory' and is refused with all memory, later than another one that makes the calls before this one alone: so

@@ -12,7 +12,7 @@ use crate::read_watch::ReadWatch;
 use crate::session::Session;
 use md_commands::{CommandFault, Source};
 use md_examine::Sink;
-use md_images::{Images, image_list, put_back, take_images};
+use md_images::{Images, MissingWord, image_list, put_back, take_images};
 use md_messages::{Asker, Notices};
 use md_words::ArrayCommand;
 use std::alloc::{AllocError, Global};
@@ -37,7 +37,7 @@ pub(crate) fn with_array<
     names: &[&str],
     notices: &mut Notices,
 ) -> Result<(), CommandFault>
-    ensures gives { OpensWithBitmap I.Images I.Dev.Device R.Source S.Sink A.Asker
+    ensures gives { OpensWithBitmap I.Images I.Dev.Device R.Source S.Sink A.Asker session.old.lacking.now
         (option_map (λ s. s.now) bitmap.entry) (array_ask command.entry) (texts names.now)
         images.old images.new (told_of session.old notices.old) (told_of session.new notices.new) result }
     ensures flushed { IfOk result (λ _. S.is_flushed session.new.out) }
@@ -47,7 +47,7 @@ pub(crate) fn with_array<
         return Err(CommandFault::NoMemory);
     };
     let names = all.as_slice();
-    let Ok(list) = image_list(session.alloc, names, false) else {
+    let Ok(list) = image_list(session.alloc, names, MissingWord::NamesAnImage) else {
         return Err(CommandFault::NoMemory);
     };
     let words = list.as_slice();

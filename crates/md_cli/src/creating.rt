@@ -19,7 +19,7 @@ use md_commands::CommandFault;
 use md_create::{CreateFault, CreateParams, NewMember, create};
 use md_device::Device;
 use md_examine::Sink;
-use md_images::{Access, ImageWord, Images, image_list, put_back, take_images};
+use md_images::{Access, ImageWord, Images, MissingWord, image_list, put_back, take_images};
 use md_messages::{Asker, Notices, ask_first};
 use md_words::Command;
 use std::alloc::Global;
@@ -136,7 +136,7 @@ pub(crate) fn create_images<I: Images, T, R: Drop, S: Sink + Drop, W, A: Asker +
         images.old images.new (told_of session.old notices.old) (told_of session.new notices.new) result }
     ensures flushed { IfOk result (λ _. S.is_flushed session.new.out) }
 {
-    let Ok(list) = image_list(session.alloc, names, true) else {
+    let Ok(list) = image_list(session.alloc, names, MissingWord::StandsForAMember) else {
         return Err(CommandFault::NoMemory);
     };
     let words = list.as_slice();

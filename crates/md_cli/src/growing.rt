@@ -10,7 +10,7 @@ use crate::show_devices::show_devices;
 use md_commands::{CommandFault, OptionFault};
 use md_device::Device;
 use md_examine::Sink;
-use md_images::{Access, Images, image_list, put_back, take_images};
+use md_images::{Access, Images, MissingWord, image_list, put_back, take_images};
 use md_metadata::grow;
 use std::alloc::Global;
 
@@ -70,7 +70,7 @@ fn grow_images<I: Images, S: Sink>(
         (image_list false (texts names.now)) images.old images.new out.old out.new result }
     ensures flushed { IfOk result (λ _. S.is_flushed out.new) }
 {
-    let Ok(list) = image_list(alloc, names, false) else {
+    let Ok(list) = image_list(alloc, names, MissingWord::NamesAnImage) else {
         return Err(CommandFault::NoMemory);
     };
     let words = list.as_slice();

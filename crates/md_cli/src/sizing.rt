@@ -37,7 +37,7 @@ pub(crate) fn sizes_of<D: Device>(
     let mut sizes = ArrayVec::new();
     let mut next = 0;
     for place in 0..names.len() {
-        if is_missing(true, names[place]) {
+        if is_missing(names[place]) {
             sizes.push(None);
             continue;
         }
