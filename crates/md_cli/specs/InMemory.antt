@@ -1,6 +1,15 @@
--- A bitmap that members get in memory, where their images are only looked at.
-use Rattle.std.specs.Prelude.{◌≡◌, ◌≢◌, ◌⊎◌, ℕ, List, Option, Some, None, Result, Ok, Err}
-use Rattle.md_state.specs.View.{Disk}
+-- What members get in memory whose images are only looked at: a bitmap, and what stands in for a superblock that can't be read.
+use Rattle.std.specs.Prelude.{◌≡◌, ◌≢◌, ◌⊎◌, ◌*◌, ℕ, List, slice_get, Option, Some, None, Result, Ok, Err}
+use Rattle.std.specs.List.{insert, remove}
+use Rattle.md_state.specs.View.{Disk, MirrorView}
+use Rattle.md_array.specs.Open.Opened.{IsOpenedFrom}
+use Rattle.md_commands.specs.declared.data_of_fault.DataOfFault.{DataOfFault}
+use Rattle.md_commands.specs.declared.fault.CommandFault.{CommandFault}
+use Rattle.md_commands.specs.declared.fault.CommandFault.TheVariants.{NoMemory, Options}
+use Rattle.md_commands.specs.declared.option_fault.OptionFault.TheVariants.{DataOf}
+use Rattle.md_read_commands.specs.Fronted.{in_memory}
+use Rattle.md_read_commands.specs.StandIn.{IsFree, StandsIn}
+use Rattle.md_read_commands.specs.declared.stand_in.put.StandIn.{StandIn}
 use Rattle.md_metadata.specs.Grow.Growing.{Grows, RefusesToGrow}
 use Rattle.md_metadata.specs.declared.bitmap_grow.fault.GrowFault.{GrowFault}
 use Rattle.md_metadata.specs.declared.bitmap_grow.fault.GrowFault.TheVariants.{HasBitmap}
@@ -24,3 +33,26 @@ pub record GetsNoBitmap (chunk : Option ℕ) (before : List Disk) (why : GrowFau
   pub left : List Disk
   pub refused : RefusesToGrow chunk_bytes before left why
   pub lacking : why ≢ HasBitmap
+
+-- ---- what stands in for a superblock
+-- The other devices make an array that has the device with this number in sync, as far as they tell; and then the one of this index,
+-- which lacked a superblock or a bitmap, is read as that. The others are as they were opened, in memory: no crash leaves anything.
+pub record PutsStandIn (wanted : StandIn) (before after : List Disk) : Type 0 where
+  pub lost : Disk
+  pub at : slice_get before wanted.index ≡ Some (in_memory lost)
+  pub opened : MirrorView
+  pub opens : IsOpenedFrom (remove before wanted.index) opened
+  pub free : IsFree opened.array wanted.number
+  pub kept : Disk
+  pub stands : StandsIn wanted (512 * opened.array.chunks.sectors) opened.array.shared lost kept
+  pub is : after ≡ insert opened.disks wanted.index kept
+
+abbrev pub GetsStandIn : Option StandIn → List Disk → List Disk → Type 0
+GetsStandIn None before after = after ≡ before
+GetsStandIn (Some wanted) before after = PutsStandIn wanted before after
+
+-- why it is refused
+abbrev pub RefusesStandIn : Option StandIn → CommandFault → Type 0
+RefusesStandIn None why = why ≡ NoMemory
+RefusesStandIn (Some wanted) why =
+    (why ≡ NoMemory) ⊎ ((fault : DataOfFault) × (why ≡ Options (DataOf fault)))

@@ -14,6 +14,7 @@
 #![tactic(auto)]
 
 mod arrays;
+mod counted_image;
 mod create_options;
 mod creating;
 mod devices;
@@ -34,6 +35,7 @@ mod show_short;
 mod shown_names;
 mod sizing;
 
+pub use counted_image::stand_in_of;
 pub use md_read_commands::FillWatch;
 pub use read_watch::ReadWatch;
 pub use refusing::show_why;

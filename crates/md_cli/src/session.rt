@@ -1,5 +1,5 @@
 // What a run has of the machine.
-use md_read_commands::Gaps;
+use md_read_commands::{Gaps, StandIn};
 use std::alloc::Global;
 
 /// What each command is given of the machine that it runs on: what starts threads, the memory, the input, the output,
@@ -9,6 +9,8 @@ use std::alloc::Global;
 ///
 /// Of the sectors that a read is to put out so many stand already, from the first on, where an earlier one was interrupted:
 /// the read goes on behind them. `gaps` has those of them then that were not given to that one.
+///
+/// An image may count as a device of the array whose superblock can't be read, where the images are only looked at.
 #[derive(Drop)]
 pub struct Session<'a, T, R: Drop, S: Drop, W, A: Drop> {
     pub rt: &'a T,
@@ -21,5 +23,6 @@ pub struct Session<'a, T, R: Drop, S: Drop, W, A: Drop> {
     pub gaps: Option<Gaps>,
     pub is_all_out: bool,
     pub stands: u64,
+    pub stand_in: Option<StandIn>,
     pub mismatched: Option<u32>,
 }

@@ -3,7 +3,7 @@ use crate::advice::geometry_advice::SMALLEST_IMAGE;
 use md_array::{AddFault, BeginFault, FailFault, OpenFault, ReAddFault, RemoveFault};
 use md_assembly::AssembleFault;
 use md_check::CheckFault;
-use md_commands::{CommandFault, OptionFault};
+use md_commands::{CommandFault, DataOfFault, OptionFault};
 use md_copy::RebuildFault;
 use md_create::CreateFault;
 use md_members::MemberFault;
@@ -267,6 +267,37 @@ fn option_advice(fault: OptionFault) -> &'static str {
         OptionFault::BadBitmap => "fix the option: only `internal` is given",
         OptionFault::BadChunk => "choose a smaller chunk, below 4,194,304 KiB",
         OptionFault::BadSize => "choose a smaller size",
+        OptionFault::DataOf(fault) => data_of_advice(fault),
+    }
+}
+
+fn data_of_advice(fault: DataOfFault) -> &'static str {
+    match fault {
+        DataOfFault::BadDataOf => {
+            "fix the option: `--data-of IMAGE=NUMBER`, with an image as it is listed and the number of its device in the array"
+        }
+        DataOfFault::NoArrayBeside => {
+            "give the command without that image first: what it is refused for then is to be set right before"
+        }
+        DataOfFault::NumberTaken(_) => {
+            "give another number: `detail` without that image shows which role has no image, and which number is in it"
+        }
+        DataOfFault::NumberNotInSync => {
+            "leave that image out: it failed, left or was rebuilt before the array was last changed, or was none of it; or the others are older, and it is to be looked at alone"
+        }
+        DataOfFault::HasSuperblock => {
+            "leave the option out; `examine` shows of which array the image is, and its number"
+        }
+        DataOfFault::DataElsewhere => {
+            "leave that image out, and take its data by hand (docs/RECOVER.md): they begin where its own superblock says"
+        }
+        DataOfFault::LogUnread => {
+            "leave that image out, or take its data by hand (docs/RECOVER.md): what it listed as bad may be old data there"
+        }
+        DataOfFault::DataPastEnd => {
+            "the copy was cut, or its data begin elsewhere than those of the others: copy it again, or leave it out"
+        }
+        DataOfFault::NoMemory => MORE_MEMORY,
     }
 }
 
