@@ -398,16 +398,19 @@ EXT = "mdcli: %s: holds an ext2, ext3 or ext4 file system\n"
 XFS = "mdcli: %s: holds an XFS file system\n"
 PARTED = "mdcli: %s: was used without %s since they parted: what was written to it alone is not in this array\n"
 # What a rebuild newly lists: one chunk.
-BY_CHUNKS = ", also good ones of the same chunks, are now 8"
-UNGIVEN = "mdcli: %s: no member gave all of it: the sectors that are listed as bad in it" + BY_CHUNKS + "\n"
+UNREAD = "mdcli: %s: could not be read in places: the sectors that are listed as bad in it are now 8\n"
+UNGIVEN = "mdcli: %s: no member gave all of it: the sectors that are listed as bad in it are now 8\n"
 # What no member gives then, and what is said of a rebuild that lists chunks.
 UNGIVEN_SECTORS = "mdcli: sectors of the array that no member in sync gives: %d, the first is %d\n"
-CHUNKS_LISTED = (
-    "mdcli: `rebuild --salvage` would have listed only the sectors that no member gave, and not their whole chunks,"
-    " as long as the logs had room\n"
-)
-# With --verbose: what to do with an image that can't be read in a place.
+CHUNKS_LISTED = "mdcli: of a chunk with bad sectors all are listed; `rebuild --salvage` lists the bad sectors alone\n"
+# With --verbose: what to do with an image that can't be read in a place, and with one that can't be read in more places than it can
+# list.
 COPY = "%s: copy the disk by ddrescue, and use the copy with its map (`--map`), without which zeros would count as data; or leave the image out\n"
+LEAVE_OUT = (
+    "%s: it can't be read in more places than its bad block log has room for: `rebuild --salvage` lists bad sectors alone; or leave the image"
+    " out, if another member is in sync; or copy the disk by ddrescue, which may get more of it, and use the copy with its map (`--map`),"
+    " without which zeros would count as data; or put out the array by `read --readonly --fill`, and make a new one of it by `create`\n"
+)
 
 PLAN = (
     "rounds 4, chunks 8, orphans 0\n   chunk source    round\n",
@@ -415,6 +418,11 @@ PLAN = (
 )
 
 REBUILT = (PLAN[0], PLAN[1] + "rebuilt member 2, passes 1, orphans 0\n")
+REBUILT_FROM_COPIES = (
+    PLAN[0],
+    "rounds 1, chunks 2, orphans 0\n   chunk source    round\n       2      1        0\n       5      0        0\n"
+    "certificate for 0 rounds: 2 5\norphans: none\nrebuilt member 2, passes 2, orphans 0\n",
+)
 # Chunk 5 of the array's eight.
 REBUILT_FROM_ONE = (
     "rounds 7, chunks 7, orphans 1\n   chunk source    round\n",
@@ -429,16 +437,17 @@ REBUILT_FROM_SECTOR_20 = (
 
 # The second member of two gets each chunk of the first one.
 REBUILT_SECOND = ("rounds 8, chunks 8, orphans 0\n", "rebuilt member 1, passes 1, orphans 0\n")
-# So it does, but for chunk 1, of which its copy lacks a sector.
+# So it does, but for chunk 1, which can't be read: the plan of the pass after that has no chunk left.
 REBUILT_BUT_ONE = (
-    "rounds 7, chunks 7, orphans 1\n   chunk source    round\n"
-    + "".join("%8d      0 %8d\n" % (chunk, place) for place, chunk in enumerate([0, 2, 3, 4, 5, 6, 7]))
-    + "certificate for 6 rounds: 0 2 3 4 5 6 7\norphans: 1\n"
-    + "rebuilt member 1, passes 1, orphans 1\n"
+    "rounds 8, chunks 8, orphans 0\n   chunk source    round\n"
+    + "".join("%8d      0 %8d\n" % (chunk, chunk) for chunk in range(8))
+    + "certificate for 7 rounds: 0 1 2 3 4 5 6 7\norphans: none\n"
+    + "rounds 0, chunks 0, orphans 1\n   chunk source    round\ncertificate: none\norphans: 1\n"
+    + "rebuilt member 1, passes 2, orphans 1\n"
 )
 # Where its sector 9 alone is lost.
-SALVAGED_BUT_ONE = REBUILT_BUT_ONE[: REBUILT_BUT_ONE.index("rebuilt")] + "rebuilt member 1, passes 1, lost sectors 1, first 9, listed besides 0\n"
-ONE_UNGIVEN = (UNGIVEN % "b").replace(BY_CHUNKS, " are now 1")
+SALVAGED_BUT_ONE = REBUILT_BUT_ONE[: REBUILT_BUT_ONE.index("rounds 0")] + "rebuilt member 1, passes 1, lost sectors 1, first 9, listed besides 0\n"
+ONE_UNREAD = (UNREAD % "a" + UNGIVEN % "b").replace("now 8", "now 1")
 
 TWO = {"a": ZEROS, "b": ZEROS}
 TWO_LONG = {"a": bytes((2048 + LONG) * SECTOR), "b": bytes((2048 + LONG) * SECTOR)}
@@ -936,9 +945,7 @@ CASES = [
             Step("read --output b --sector 8 --count 2 --map a=late a b", fault="OutputFileExists"),
             Step("read --output read --sector 8 --count 2 --map a=late --map b=early a b", made={"read": DATA[:SECTOR] + bytes(SECTOR)}),
             Step("detail --map a=early --map b=late a b", DETAIL),
-            # What the copy lacks is not compared, and the rest of the chunk is.
-            Step("check --map a=early --map b=late a b", AGREE),
-            Step("check --map b=late a b", DIFFER),
+            Step("check --map b=late a b", fault="ReadFault 1 1"),
             Step("detail --map a=cut a b", fault="BadMap 0 Line 4 Cut"),
             Step("detail --map c=late a b", fault="BadMap 0 NotListed"),
             Step("detail --map a=late --map c=late a b", fault="BadMap 1 NotListed"),
@@ -984,8 +991,7 @@ CASES = [
             Made("b", "b", lambda image: members.with_data(image, 8, DATA)),
             marked_alone("a", 1),
             marked_alone("b", 1),
-            Step("resync --map a=early --map b=early a b", fault="ReadFault 1 1"),
-            Step("resync --verbose --map a=early --map b=early a b", fault="ReadFault 1 1", told=COPY % "b"),
+            Step("resync --map a=early a b", fault="ReadFault 0 1"),
             # Without memory for the runs that are left the write fails: what it wrote is not given.
             Step("resync --map b=four a b", "in sync 2 of 2, events 2, marked 0\n", changes="a b"),
             Step("check a b", AGREE),
@@ -997,12 +1003,11 @@ CASES = [
         dict(TWO_MAPPED, c=ZEROS, third=lacks((16, 1))),
         WITH_A_SPARE
         + [
-            # Chunk 2 comes from the second one alone, and chunk 5 from the first one; the others from each in turn.
+            # They give the chunks in turn: the first chunks 0, 2, 4 and 6, the second the others.
             Step("plan --member 2 --map a=third --map b=far a b c", PLAN),
-            Step("rebuild --member 2 --map a=third --map b=far a b c", REBUILT, changes="a b c"),
-            # What a copy lacks stands in its log then.
-            Step("examine-badblocks a", "        2064 for 1 sectors\n"),
-            Step("examine-badblocks b", "        2088 for 1 sectors\n"),
+            # What the one does not give the other one does, in a second pass.
+            Step("rebuild --member 2 --map a=third --map b=far a b c", REBUILT_FROM_COPIES, told=UNREAD % "a" + UNREAD % "b" + CHUNKS_LISTED, changes="a b c"),
+            Step("examine-badblocks a", "        2064 for 8 sectors\n"),
             Step("check a b c", AGREE),
         ],
     ),
@@ -1071,8 +1076,8 @@ CASES = [
         [
             Step("check --verbose a b", AGREE),
             Step("check --readonly a b", AGREE),
-            Step("check --verbose --map b=late a b", AGREE),
-            Step("check --readonly --map b=late a b", AGREE),
+            Step("check --verbose --map b=late a b", fault="ReadFault 1 1", told=COPY % "b"),
+            Step("check --readonly --map b=late a b", fault="ReadFault 1 1"),
         ],
     ),
     (
@@ -1437,17 +1442,17 @@ CASES = [
         ],
     ),
     (
-        "a chunk of which a copy lacks a sector is listed on the new member, since no other gives it, and the sector on its source",
+        "a chunk that can't be read is listed on its source, and on the new member, since no other gives it",
         {"a": VAULT, "b": ZEROS, "late": lacks((9, 1))},
         [
             NEW_BESIDE_VAULT,
             Step(
                 "rebuild --verbose --map a=late --member 1 a b",
                 REBUILT_BUT_ONE,
-                told=UNGIVEN % "b" + UNGIVEN_SECTORS % (1, 9) + CHUNKS_LISTED,
+                told=UNREAD % "a" + UNGIVEN % "b" + UNGIVEN_SECTORS % (8, 8) + CHUNKS_LISTED,
                 changes="a b",
             ),
-            Step("examine-badblocks --verbose a", "        2057 for 1 sectors\n"),
+            Step("examine-badblocks --verbose a", "        2056 for 8 sectors\n"),
             Step("examine-badblocks --verbose b", "        2056 for 8 sectors\n"),
         ],
     ),
@@ -1456,7 +1461,7 @@ CASES = [
         {"a": VAULT, "b": ZEROS, "late": lacks((9, 1))},
         [
             NEW_BESIDE_VAULT,
-            Step("rebuild --salvage --map a=late --member 1 a b", SALVAGED_BUT_ONE, told=ONE_UNGIVEN + UNGIVEN_SECTORS % (1, 9), changes="a b"),
+            Step("rebuild --salvage --map a=late --member 1 a b", SALVAGED_BUT_ONE, told=ONE_UNREAD + UNGIVEN_SECTORS % (1, 9), changes="a b"),
             Step("examine-badblocks --verbose a", "        2057 for 1 sectors\n"),
             Step("examine-badblocks --verbose b", "        2057 for 1 sectors\n"),
             Step("rebuild --salvage --map a=late --member 1 a b", fault="NotSpare"),
@@ -1470,7 +1475,7 @@ CASES = [
             Step(
                 "rebuild --salvage --json --map a=late --member 1 a b",
                 '{"report":"rebuild","member":1,"passes":1,"lost_sectors":1,"listed_besides":0,"lost":[{"sector":9,"sectors":1}]}\n',
-                told=ONE_UNGIVEN + UNGIVEN_SECTORS % (1, 9),
+                told=ONE_UNREAD + UNGIVEN_SECTORS % (1, 9),
                 changes="a b",
             ),
         ],
@@ -1491,32 +1496,13 @@ CASES = [
         ],
     ),
     (
-        "what a map lacks need not be listed on its source",
+        "a chunk that can't be read ends a rebuild where it can't be listed on its source",
         {"a": without_log(VAULT), "b": ZEROS, "late": lacks((9, 1))},
         [
             NEW_BESIDE_VAULT,
-            Step(
-                "rebuild --verbose --map a=late --member 1 a b",
-                """rounds 7, chunks 7, orphans 1
-   chunk source    round
-       0      0        0
-       2      0        1
-       3      0        2
-       4      0        3
-       5      0        4
-       6      0        5
-       7      0        6
-certificate for 6 rounds: 0 2 3 4 5 6 7
-orphans: 1
-rebuilt member 1, passes 1, orphans 1
-""",
-                told="mdcli: b: no member gave all of it: the sectors that are listed as bad in it, also good ones of the same chunks, are now 8\n"
-                "mdcli: sectors of the array that no member in sync gives: 1, the first is 9\n"
-                "mdcli: `rebuild --salvage` would have listed only the sectors that no member gave, and not their whole chunks, as long as the logs had room\n"
-                "mdcli: a: its log does not list all that its map lacks: later commands need the map, too\n",
-                changes="a b",
-            ),
-            Step("fail --verbose --member 1 a b", "in sync 1 of 2, events 14, marked 0\n", changes="a"),
+            Step("rebuild --verbose --map a=late --member 1 a b", fault="LogFull 0", told=LEAVE_OUT % "a", changes="a b"),
+            # The spare was admitted before that, so it is recovering, and can be failed.
+            Step("fail --verbose --member 1 a b", "in sync 1 of 2, events 13, marked 1\n", changes="a"),
         ],
     ),
     (
@@ -2167,7 +2153,7 @@ VERBOSE = [
         {"a": VAULT, "b": OTHER, "late": lacks((9, 1))},
         [
             verbose(Step("check --readonly a b", AGREE)),
-            verbose(Step("check --readonly --map b=late a b", AGREE)),
+            verbose(Step("check --readonly --map b=late a b", fault="ReadFault 1 1", told=COPY % "b")),
         ],
     ),
 ]

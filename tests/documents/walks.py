@@ -20,7 +20,6 @@ mdcli/main.rt: main
 md_cli/running.rt: run
 md_cli/arrays.rt: with_array
 md_cli/devices.rt: open_devices
-md_cli/performing_and_storing.rt: perform_and_store
 md_cli/performing.rt: perform
 """
 WALKS = {

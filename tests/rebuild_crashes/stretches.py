@@ -151,7 +151,7 @@ def killed_past_gap(life, number):
     again = life.scratch.run(masked, [0, 1])
     if not again.errors.startswith(going_on(GAP)):
         reasons.append("run again it says %r" % again.errors)
-    if again.status != 0 or not again.output.endswith(b"rebuilt member 1, passes 1, orphans 1\n"):
+    if again.status != 0 or not again.output.endswith(b"rebuilt member 1, passes 2, orphans 1\n"):
         reasons.append("run again it answers %r, %r" % (again.output[-80:], again.errors))
     if set(data_chunks(again)) != set(range(GAP + 1, CHUNKS)):
         reasons.append("run again it copies %d chunks" % len(set(data_chunks(again))))

@@ -21,8 +21,6 @@ SECONDS = 10
 NO_MEMORY = "mdcli: NoMemory\n"
 # Of an image for whose look there was no memory.
 UNSEEN = ": there was no memory to look at it: it may hold data"
-# Of a map it is said where nobody could look whether its image's log lists all of it.
-UNLISTED = ": its log does not list all that its map lacks: later commands need the map, too"
 UNNAMED = " is not among the images"
 
 
@@ -87,11 +85,9 @@ def is_object_of(output, errors):
 
 
 def says_less(step, answer, before, after):
-    """It is done as with all memory, but of what an image holds nothing is said, or that nobody looked; and of a log that it does not
-    list all, where nobody could look at it."""
+    """It is done as with all memory, but of what an image holds nothing is said, or that nobody looked."""
     status, output, errors = answer
     said, wanted = (set(text.splitlines()) for text in (errors, step.errors))
-    said = {line for line in said if not line.endswith(UNLISTED)}
     told = {line for line in said if not line.endswith(UNSEEN)}
     # An image at which nobody looked is not known as the device that is missing.
     if told != said:

@@ -79,7 +79,6 @@ pub(crate) fn give<R: Abort + Threads + Wait + Sync>(
         is_all_out: false,
         stands: 0,
         mismatched: None,
-        lacking: &[],
     };
     let status = runs(&mut session, case.words, images, case.messages, case.says)?;
     holds(rt, "the status", status == case.status);

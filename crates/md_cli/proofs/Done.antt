@@ -16,28 +16,27 @@ use Rattle.md_commands.specs.declared.fault.CommandFault.{CommandFault}
 use Rattle.md_messages.specs.declared.asker.Asker.{Ghosts as AskerGhosts}
 use Rattle.md_messages.specs.declared.notices.Notices.{Notices}
 use Rattle.md_cli.specs.Growing.{chunk_in_memory}
-use Rattle.md_cli.specs.Lacking.{Maps}
 use Rattle.md_cli.specs.Running.{DoesNothing, ExaminesImage, Obeys, OpensArray, OpensWithBitmap}
 use Rattle.md_cli.specs.Streams.{OnlyPutsOut, Told, told_of}
 use Rattle.md_cli.specs.declared.session.Session.{Session}
 
 -- by what is said of the kind of a bitmap
-pub by_kind : {I D R S A : Type 0} (i : ImagesGhosts I D) (g : DeviceGhosts D) (r : SourceGhosts R) (s : SinkGhosts S) (asker : AskerGhosts A) (lacking : Maps) (bitmap : Option Text) (ask : Ask) (words : List Text) (before after : I) (old new : Told R S A) (result : Result (Unit {0}) CommandFault)
+pub by_kind : {I D R S A : Type 0} (i : ImagesGhosts I D) (g : DeviceGhosts D) (r : SourceGhosts R) (s : SinkGhosts S) (asker : AskerGhosts A) (bitmap : Option Text) (ask : Ask) (words : List Text) (before after : I) (old new : Told R S A) (result : Result (Unit {0}) CommandFault)
     (chunk : Result (Option ℕ) CommandFault) → chunk ≡ chunk_in_memory bitmap
-    → MatchResult chunk (λ chunk. OpensArray i g r s asker lacking chunk ask words before after old new result) (λ why. (result ≡ Err why) × DoesNothing before after old new)
-    → OpensWithBitmap i g r s asker lacking bitmap ask words before after old new result
-by_kind i g r s asker lacking bitmap ask words before after old new result chunk is does =
-    subst (λ (taken : Result (Option ℕ) CommandFault). MatchResult taken (λ chunk. OpensArray i g r s asker lacking chunk ask words before after old new result) (λ why. (result ≡ Err why) × DoesNothing before after old new)) is does
+    → MatchResult chunk (λ chunk. OpensArray i g r s asker chunk ask words before after old new result) (λ why. (result ≡ Err why) × DoesNothing before after old new)
+    → OpensWithBitmap i g r s asker bitmap ask words before after old new result
+by_kind i g r s asker bitmap ask words before after old new result chunk is does =
+    subst (λ (taken : Result (Option ℕ) CommandFault). MatchResult taken (λ chunk. OpensArray i g r s asker chunk ask words before after old new result) (λ why. (result ≡ Err why) × DoesNothing before after old new)) is does
 
-module _ {I D R S A : Type 0} (i : ImagesGhosts I D) (g : DeviceGhosts D) (r : SourceGhosts R) (s : SinkGhosts S) (asker : AskerGhosts A) (random : Option (List ℕ)) (lacking : Maps) (bitmap : Option Text) (words : List Text) (before after : I) (old new : Told R S A) (result : Result (Unit {0}) CommandFault) where
+module _ {I D R S A : Type 0} (i : ImagesGhosts I D) (g : DeviceGhosts D) (r : SourceGhosts R) (s : SinkGhosts S) (asker : AskerGhosts A) (random : Option (List ℕ)) (bitmap : Option Text) (words : List Text) (before after : I) (old new : Told R S A) (result : Result (Unit {0}) CommandFault) where
   -- a command that shows one image
-  pub shows_by : (c : ImageCommand) → OnlyPutsOut old new × ExaminesImage i g s (image_ask c) words before after old.streams.output new.streams.output result → Obeys i g r s asker random lacking bitmap (image_ask c) words before after old new result
+  pub shows_by : (c : ImageCommand) → OnlyPutsOut old new × ExaminesImage i g s (image_ask c) words before after old.streams.output new.streams.output result → Obeys i g r s asker random bitmap (image_ask c) words before after old new result
   shows_by (image.Examine form) h = h
   shows_by (image.ExamineBitmap form) h = h
   shows_by (image.ExamineBadblocks form) h = h
 
   -- a command that opens an array
-  pub does_by : (c : ArrayCommand) → OpensWithBitmap i g r s asker lacking bitmap (array_ask c) words before after old new result → Obeys i g r s asker random lacking bitmap (array_ask c) words before after old new result
+  pub does_by : (c : ArrayCommand) → OpensWithBitmap i g r s asker bitmap (array_ask c) words before after old new result → Obeys i g r s asker random bitmap (array_ask c) words before after old new result
   does_by (array.Assemble json readonly) h = h
   does_by (array.Detail form readonly) h = h
   does_by (array.Plan k json readonly) h = h
@@ -55,9 +54,9 @@ module _ {I D R S A : Type 0} (i : ImagesGhosts I D) (g : DeviceGhosts D) (r : S
   does_by (array.Rebuild k loss form) h = h
 
 -- what is done stands where it came to
-module _ {I D T R S W A : Type 0} (i : ImagesGhosts I D) (g : DeviceGhosts D) (r : SourceGhosts R) (s : SinkGhosts S) (asker : AskerGhosts A) (random : Option (List ℕ)) (lacking : Maps) (bitmap : Option Text) (words : List Text) (before : I) (old : Told R S A) where
+module _ {I D T R S W A : Type 0} (i : ImagesGhosts I D) (g : DeviceGhosts D) (r : SourceGhosts R) (s : SinkGhosts S) (asker : AskerGhosts A) (random : Option (List ℕ)) (bitmap : Option Text) (words : List Text) (before : I) (old : Told R S A) where
   pub stands_so : (command k : Command) (after images : I) (new session : Session T R S W A) (noticed notices : Notices) (result outcome : Result (Unit {0}) CommandFault) → command ≡ k → images ≡ after → session ≡ new → notices ≡ noticed → outcome ≡ result
-      → Obeys i g r s asker random lacking bitmap (ask_of k) words before after old (told_of new noticed) result → Obeys i g r s asker random lacking bitmap (ask_of command) words before images old (told_of session notices) outcome
+      → Obeys i g r s asker random bitmap (ask_of k) words before after old (told_of new noticed) result → Obeys i g r s asker random bitmap (ask_of command) words before images old (told_of session notices) outcome
   stands_so command k after images new session noticed notices result outcome is images_are session_is noticed_is outcome_is does =
       rw (is, images_are, session_is, noticed_is, outcome_is) does
 

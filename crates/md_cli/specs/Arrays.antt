@@ -27,7 +27,6 @@ use Rattle.md_messages.specs.Question.{Question}
 use Rattle.md_messages.specs.declared.notices.Notices.{Notices}
 use Rattle.md_cli.specs.Asking.{PerformsOrDeclines}
 use Rattle.md_cli.specs.InMemory.{GetsBitmapInMemory, GetsNoBitmap}
-use Rattle.md_cli.specs.Lacking.{Maps, OpensLacking, RefusesLackingImages, growth_of}
 use Rattle.md_cli.specs.Opened.{OpenedView, moves_device, with_beside, with_last}
 use Rattle.md_cli.specs.Streams.{Told}
 
@@ -36,17 +35,13 @@ use Rattle.md_cli.specs.Streams.{Told}
 abbrev pub overlaid : Disk → Disk
 overlaid d = record d { faults = []; failures = 0; crashes = [] }
 
--- why devices are not opened, and what stands on them then
-abbrev pub Refusal : Type 1
-Refusal = List Disk → List Disk → OpenFault → Type 0
-
-module _ {X : Type 0} (Refuses : Refusal) where
+module _ {X : Type 0} where
   -- they are not opened as a mirror, and nothing is read or put out
   pub record RefusesMirror (before after : List Disk) (old new : X)
       (result : Result (Unit {0}) CommandFault) : Type 0 where
     pub fault : OpenFault
     pub is : result ≡ Err (Open fault)
-    pub refused : Refuses before after fault
+    pub refused : RefusesOpen before after fault
     pub unused : new ≡ old
 
 module _ {S : Type 0} (s : SinkGhosts S) (text_of : ArrayView → List ℕ) where
@@ -61,7 +56,7 @@ module _ {S : Type 0} (s : SinkGhosts S) (text_of : ArrayView → List ℕ) wher
 
   abbrev pub ShowsDevices : List Disk → List Disk → S → S → Result (Unit {0}) CommandFault → Type 0
   ShowsDevices before after old new result =
-      ShowsMirror before after old new result ⊎ RefusesMirror RefusesOpen before after old new result
+      ShowsMirror before after old new result ⊎ RefusesMirror before after old new result
 
 -- An overlay refuses a write only where there is no memory for it: then that is the fault.
 abbrev pub answer_of_overlays : Result (Unit {0}) CommandFault → Result (Unit {0}) CommandFault
@@ -78,20 +73,19 @@ pub record TakesLast (ask : Ask) (all members : List Disk) (seen : Option Disk)
   pub looks : NotesHeldOnJoining device seen old new
 
 module _ {R S A : Type 0} (r : SourceGhosts R) (s : SinkGhosts S) (q : Question A) (names : List Text)
-    (lacking : Maps) (ask : Ask) where
-  -- The devices of the members are opened as a mirror, where what their images lack counts as listed, and the command is done with it,
-  -- where the question allows it. All
+    (ask : Ask) where
+  -- The devices of the members are opened as a mirror, and the command is done with it, where the question allows it. All
   -- devices come back in the order of their images, as it left them: those of the members, and the one beside them. What is noticed
   -- is that of the mirror as it was opened, and as it is left.
   pub record PerformsOnMirror (members : List Disk) (device : Option Disk) (after : List Disk)
       (old new : Told R S A) (result : Result (Unit {0}) CommandFault) : Type 0 where
     pub opened : MirrorView
-    pub opens : OpensLacking (growth_of ask) lacking members opened
+    pub opens : IsOpenedFrom members opened
     pub first : Notices
     pub noted : NotesOpening ask opened.array old.notices first
     pub left : OpenedView
-    pub performs : PerformsOrDeclines r s q names lacking ask first
-        (record { mirror = opened; beside = device }) left old.streams new.streams result
+    pub performs : PerformsOrDeclines r s q names ask first (record { mirror = opened; beside = device }) left
+        old.streams new.streams result
     pub dropped : new.notices ≡ with_dropped ask left.mirror.array (is_some left.beside) first
     pub devices : after ≡ with_beside ask left.mirror.disks left.beside
 
@@ -99,7 +93,7 @@ module _ {R S A : Type 0} (r : SourceGhosts R) (s : SinkGhosts S) (q : Question 
   pub record RefusesMembers (members : List Disk) (device : Option Disk) (after : List Disk)
       (old new : Told R S A) (result : Result (Unit {0}) CommandFault) : Type 0 where
     pub left : List Disk
-    pub refused : RefusesMirror (RefusesLackingImages lacking) members left old new result
+    pub refused : RefusesMirror members left old new result
     pub devices : after ≡ with_beside ask left device
 
   abbrev pub OpensMembers : List Disk → Option Disk → List Disk → Told R S A → Told R S A
@@ -135,7 +129,7 @@ module _ {R S A : Type 0} (r : SourceGhosts R) (s : SinkGhosts S) (q : Question 
       OpensAll before after old new result ⊎ RefusesList before after old new result
 
 module _ {R S A : Type 0} (r : SourceGhosts R) (s : SinkGhosts S) (q : Question A) (names : List Text)
-    (lacking : Maps) (ask : Ask) (chunk : Option ℕ) where
+    (ask : Ask) (chunk : Option ℕ) where
   -- The devices are only looked at, and what is written is kept in memory over them, a bitmap first, where one is asked for. They are
   -- opened so as a mirror, and the command is done with it. Of what is noticed it is forgotten what was stored, and which writes failed.
   pub record LooksAtMirror (devices : List Disk) (old new : Told R S A)
@@ -145,7 +139,7 @@ module _ {R S A : Type 0} (r : SourceGhosts R) (s : SinkGhosts S) (q : Question 
     pub seen : List Disk
     pub noted : Notices
     pub answer : Result (Unit {0}) CommandFault
-    pub opened : OpensDevices r s q names lacking ask given seen old (record new { notices = noted }) answer
+    pub opened : OpensDevices r s q names ask given seen old (record new { notices = noted }) answer
     pub forgotten : new.notices ≡ without_stored noted
     pub told : result ≡ answer_of_overlays answer
 
@@ -171,7 +165,7 @@ module _ {R S A : Type 0} (r : SourceGhosts R) (s : SinkGhosts S) (q : Question 
   abbrev pub WorksBy : Bool → List Disk → List Disk → Told R S A → Told R S A → Result (Unit {0}) CommandFault
       → Type 0
   WorksBy true before after old new result = (after ≡ before) × LooksAtDevices before old new result
-  WorksBy false before after old new result = OpensDevices r s q names lacking ask before after old new result
+  WorksBy false before after old new result = OpensDevices r s q names ask before after old new result
 
   abbrev pub WorksOn : List Disk → List Disk → Told R S A → Told R S A
       → Result (Unit {0}) CommandFault → Type 0

@@ -7,10 +7,8 @@ use Rattle.md_words.specs.Asks.{Ask, compares, fills}
 use Rattle.md_commands.specs.declared.fault.CommandFault.{CommandFault}
 use Rattle.md_messages.specs.Question.{Question}
 use Rattle.md_messages.specs.declared.notices.Notices.{Notices}
-use Rattle.md_cli.specs.Lacking.{Maps}
 use Rattle.md_cli.specs.Opened.{OpenedView}
 use Rattle.md_cli.specs.Performing.{Performs}
-use Rattle.md_cli.specs.StoringLists.{EndsWithLists, FailsToStoreAll, StoresEachList, StoresEarly, stores_lists}
 use Rattle.md_cli.specs.Streams.{Streams}
 
 -- A command that was asked of does not go on: nothing is done.
@@ -22,51 +20,13 @@ pub record Declines {V R S A : Type 0} (q : Question A) (n : Notices) (before af
   pub same : after ≡ before
   pub unused : new ≡ record old { asker = new.asker }
 
-module _ {R S A : Type 0} (r : SourceGhosts R) (s : SinkGhosts S) (names : List Text) (lacking : Maps)
-    (ask : Ask) where
-  -- The lists of members whose images lack something are stored, and then the command is done with the array; or one can't be stored,
-  -- and nothing else is done.
-  pub record StoresThenPerforms (before after : OpenedView) (old new : Streams R S A)
-      (result : Result (Unit {0}) CommandFault) : Type 0 where
-    pub early : StoresEarly ask before.mirror.array
-    pub ready : OpenedView
-    pub stores : StoresEachList lacking before ready
-    pub performs : Performs r s names ask ready after old new result
-
-  pub record FailsToBegin (before after : OpenedView) (old new : Streams R S A)
-      (result : Result (Unit {0}) CommandFault) : Type 0 where
-    pub early : StoresEarly ask before.mirror.array
-    pub fault : CommandFault
-    pub is : result ≡ Err fault
-    pub fails : FailsToStoreAll lacking before after fault
-    pub unused : new ≡ record old { asker = new.asker }
-
-  -- The command is done with the array, and where it stores lists, these are stored then.
-  pub record PerformsThenStores (before after : OpenedView) (old new : Streams R S A)
-      (result : Result (Unit {0}) CommandFault) : Type 0 where
-    pub done : OpenedView
-    pub part : Result (Unit {0}) CommandFault
-    pub performs : Performs r s names ask before done old new part
-    pub ends : EndsWithLists (stores_lists ask) lacking part done after result
-
-  abbrev pub StoresFirst : OpenedView → OpenedView → Streams R S A → Streams R S A
-      → Result (Unit {0}) CommandFault → Type 0
-  StoresFirst before after old new result =
-      StoresThenPerforms before after old new result ⊎ FailsToBegin before after old new result
-
-  abbrev pub PerformsAndStores : OpenedView → OpenedView → Streams R S A → Streams R S A
-      → Result (Unit {0}) CommandFault → Type 0
-  PerformsAndStores before after old new result =
-      (StoresEarly ask before.mirror.array → ⊥) × PerformsThenStores before after old new result
-      ⊎ StoresFirst before after old new result
-
 module _ {R S A : Type 0} (r : SourceGhosts R) (s : SinkGhosts S) (q : Question A) (names : List Text)
-    (lacking : Maps) (ask : Ask) (n : Notices) where
+    (ask : Ask) (n : Notices) where
   -- it goes on, and is done or refused; nobody is asked again
   pub record GoesOnAgreed (before after : OpenedView) (old new : Streams R S A)
       (result : Result (Unit {0}) CommandFault) : Type 0 where
     pub agreed : q n old.asker new.asker (Ok tt)
-    pub performs : PerformsAndStores r s names lacking ask before after old new result
+    pub performs : Performs r s names ask before after old new result
     -- no other command notes for which sectors zeros were put out
     pub noted : fills ask ≡ false → new.gaps ≡ old.gaps
     -- nor in how many chunks members differ

@@ -13,7 +13,7 @@ use Rattle.md_metadata.specs.declared.bitmap_grow.fault.GrowFault.{GrowFault}
 use Rattle.md_commands.specs.declared.fault.CommandFault.{CommandFault}
 use Rattle.md_commands.specs.declared.fault.CommandFault.TheVariants as fault
 use Rattle.md_commands.specs.declared.option_fault.OptionFault.TheVariants.{BadBitmap, BadChunk}
-use Rattle.md_report.specs.AsText.WholeArray.SummaryReport.{summary_text}
+use Rattle.md_report.specs.SummaryReport.{summary_text}
 use Rattle.md_cli.specs.Arrays.{ShowsDevices, UsesImages}
 use Rattle.md_cli.specs.CreateOptions.{bytes_of_kib}
 

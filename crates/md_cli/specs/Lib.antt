@@ -12,8 +12,6 @@ pub mod Growing
 pub mod InMemory
 -- An opened array, and a device beside it.
 pub mod Opened
--- What copies lack counts as part of the lists of the members.
-pub mod Lacking
 -- What commands do with an opened array.
 pub mod Performing
 -- Why a command is refused, as a JSON object.
@@ -24,7 +22,5 @@ pub mod Running
 pub mod Scanning
 -- The UUID of an array that `create` makes.
 pub mod SetUuid
--- Lists that are longer in memory than in the logs are stored.
-pub mod StoringLists
 -- The input and the output of a run.
 pub mod Streams

@@ -27,10 +27,10 @@ use Rattle.md_read_commands.specs.Serving.{ServesArray}
 use Rattle.md_serve_commands.specs.Writable.{ServesWritable}
 use Rattle.md_examine.specs.declared.sink.Sink.{Ghosts as SinkGhosts}
 use Rattle.md_images.specs.Taking.{Text}
-use Rattle.md_report.specs.AsText.CheckReport.{list_text}
-use Rattle.md_report.specs.AsText.WholeArray.DetailReport.{detail_text}
-use Rattle.md_report.specs.AsText.WholeArray.SummaryReport.{summary_text}
-use Rattle.md_report.specs.AsText.WholeArray.VerboseReport.{verbose_text}
+use Rattle.md_report.specs.CheckReport.{list_text}
+use Rattle.md_report.specs.DetailReport.{detail_text}
+use Rattle.md_report.specs.SummaryReport.{summary_text}
+use Rattle.md_report.specs.VerboseReport.{verbose_text}
 use Rattle.md_badblocks.specs.declared.run.Run.{Run}
 use Rattle.md_read_commands.specs.declared.gaps.Gaps.{Gaps}
 use Rattle.md_state.specs.Rests.{Rests}

@@ -23,7 +23,6 @@ use Rattle.md_messages.specs.declared.notices.Notices.{Notices}
 use Rattle.md_cli.specs.Arrays.{KeepsImages, UsesImages, WorksOn, names_with}
 use Rattle.md_cli.specs.CreateOptions.{AreParamsOf, create_option_fault}
 use Rattle.md_cli.specs.Creating.{CreatesOn}
-use Rattle.md_cli.specs.Lacking.{Maps}
 use Rattle.md_cli.specs.Growing.{GrowsArray, chunk_in_memory}
 use Rattle.md_cli.specs.Refusing.{ShowsIfRefused}
 use Rattle.md_cli.specs.Scanning.{ScansImages}
@@ -80,14 +79,14 @@ module _ {I D R S A : Type 0} (i : ImagesGhosts I D) (g : DeviceGhosts D) (s : S
       RefusesOptions o random words before after old new result ⊎ Creates o words before after old new result
 
 module _ {I D R S A : Type 0} (i : ImagesGhosts I D) (g : DeviceGhosts D) (r : SourceGhosts R)
-    (s : SinkGhosts S) (asker : AskerGhosts A) (lacking : Maps) where
-  -- A command with the array that the images make, each of which may lack something by its map. Of one that may change none each of them stays as it is; the members may get a
+    (s : SinkGhosts S) (asker : AskerGhosts A) where
+  -- A command with the array that the images make. Of one that may change none each of them stays as it is; the members may get a
   -- bitmap in memory there, with chunks of so many bytes.
   pub record OpensArray (chunk : Option ℕ) (ask : Ask) (words : List Text) (before after : I)
       (old new : Told R S A) (result : Result (Unit {0}) CommandFault) : Type 0 where
     pub kept : is_readonly ask ≡ true → KeepsImages i before after
     pub done : UsesImages i g
-        (WorksOn r s (question asker ask (names_with ask words)) (names_with ask words) lacking ask chunk)
+        (WorksOn r s (question asker ask (names_with ask words)) (names_with ask words) ask chunk)
         (access_of ask) (image_list false (names_with ask words)) before after old new result
 
   -- the same, where the kind of that bitmap is taken; else nothing is done
@@ -99,8 +98,7 @@ module _ {I D R S A : Type 0} (i : ImagesGhosts I D) (g : DeviceGhosts D) (r : S
       (λ why. (result ≡ Err why) × DoesNothing before after old new)
 
 module _ {I D R S A : Type 0} (i : ImagesGhosts I D) (g : DeviceGhosts D) (r : SourceGhosts R)
-    (s : SinkGhosts S) (asker : AskerGhosts A) (random : Option (List ℕ)) (lacking : Maps)
-    (bitmap : Option Text) where
+    (s : SinkGhosts S) (asker : AskerGhosts A) (random : Option (List ℕ)) (bitmap : Option Text) where
   -- What each command does with the images that its words name, and perhaps a bitmap. The input is read by `write` and `serve` alone,
   -- and random bytes are used by `create` alone.
   abbrev pub Obeys : Ask → List Text → I → I → Told R S A → Told R S A
@@ -121,7 +119,7 @@ module _ {I D R S A : Type 0} (i : ImagesGhosts I D) (g : DeviceGhosts D) (r : S
       × GrowsArray i g s bitmap kib words before after old.streams.output new.streams.output result
   Obeys (scans json) words before after old new result = ⊥
   Obeys ask words before after old new result =
-      OpensWithBitmap i g r s asker lacking bitmap ask words before after old new result
+      OpensWithBitmap i g r s asker bitmap ask words before after old new result
 
   -- The command's own answer, whose status this is, and the output as it left it; where it is refused and its report was to be a
   -- JSON object, an object that says why comes after that. And what it noticed, which is told beside it.
@@ -163,7 +161,7 @@ module _ {I D T R S W A E : Type 0} (i : ImagesGhosts I D) (g : DeviceGhosts D) 
   abbrev pub RunsTaken : Type 0
   RunsTaken = words_fault words ≡ [] → scan_form (asked words) ≡ None →
       ((unparsed ≡ true) × RunsNothing)
-      ⊎ DoesCommand i g r s asker old.random_bytes old.lacking.now (bitmap_word words)
+      ⊎ DoesCommand i g r s asker old.random_bytes (bitmap_word words)
       (TellsNoticed e (audience_of asker old messages) (asked words) (image_words words)
       (streams_of new).gaps was now)
       (asked words) (image_words words) before after (streams_of old) (streams_of new) status

@@ -37,7 +37,7 @@ pub(crate) fn with_array<
     names: &[&str],
     notices: &mut Notices,
 ) -> Result<(), CommandFault>
-    ensures gives { OpensWithBitmap I.Images I.Dev.Device R.Source S.Sink A.Asker session.old.lacking.now
+    ensures gives { OpensWithBitmap I.Images I.Dev.Device R.Source S.Sink A.Asker
         (option_map (λ s. s.now) bitmap.entry) (array_ask command.entry) (texts names.now)
         images.old images.new (told_of session.old notices.old) (told_of session.new notices.new) result }
     ensures flushed { IfOk result (λ _. S.is_flushed session.new.out) }

@@ -9,13 +9,12 @@ ghost use Rattle.md_cli.specs.Arrays.{LooksAtDevices, OpensDevices, TakesLast, a
 ghost use Rattle.md_cli.specs.Opened.{beside_place, count, with_beside};
 ghost use Rattle.md_cli.specs.Streams.{told_of};
 
-use crate::holes::open_lacking;
 use crate::in_memory::with_bitmap;
 use crate::opened::{Opened, all_back, room_for};
-use crate::performing_and_storing::perform_and_store;
+use crate::performing::perform;
 use crate::read_watch::ReadWatch;
 use crate::session::Session;
-use md_array::OpenFault;
+use md_array::{Mirror, OpenFault};
 use md_commands::{CommandFault, Source};
 use md_device::Device;
 use md_examine::Sink;
@@ -48,7 +47,7 @@ pub(crate) fn look_at_devices<
     requires brings { is_some (device_to_add (array_ask command)) ≡ true → 0 < length devices.now }
     ensures gives { LooksAtDevices R.Source S.Sink
         (question A.Asker (array_ask command.entry) (texts names.now)) (texts names.now)
-        session.old.lacking.now (array_ask command.entry) chunk
+        (array_ask command.entry) chunk
         (disks D.Device devices.now)
         (told_of session.old notices.old) (told_of session.new notices.new) result }
     ensures flushed { IfOk result (λ _. S.is_flushed session.new.out) }
@@ -80,8 +79,8 @@ fn answer_of_overlays(answer: Result<(), CommandFault>) -> Result<(), CommandFau
     }
 }
 
-/// Opens devices as an array, but for the last where it is to join it, and does a command with it. What images lack by their
-/// maps counts as listed. They come back in their order. Where the command would overwrite what perhaps should stay, by what was noticed, it is asked first. The names are those of
+/// Opens devices as an array, but for the last where it is to join it, and does a command with it. They come back in their
+/// order. Where the command would overwrite what perhaps should stay, by what was noticed, it is asked first. The names are those of
 /// the devices' images. `notices` gets what is noticed of the array.
 pub(crate) fn open_devices<
     D: Device + Drop + Send,
@@ -101,7 +100,7 @@ pub(crate) fn open_devices<
     ensures as_many { length result.0.items ≡ length devices.items }
     ensures gives { OpensDevices R.Source S.Sink
         (question A.Asker (array_ask command.entry) (texts names.now)) (texts names.now)
-        session.old.lacking.now (array_ask command.entry)
+        (array_ask command.entry)
         (disks D.Device devices.items) (disks D.Device result.0.items)
         (told_of session.old notices.old) (told_of session.new notices.new) result.1 }
     ensures flushed { IfOk result.1 (λ _. S.is_flushed session.new.out) }
@@ -110,7 +109,7 @@ pub(crate) fn open_devices<
         return (devices, Err(CommandFault::NoMemory));
     };
     let beside = take_beside(session.alloc, command, &mut devices, notices);
-    let mirror = match open_lacking(session.alloc, command, session.lacking, devices) {
+    let mirror = match Mirror::open(session.alloc, devices) {
         Ok(mirror) => mirror,
         Err((members, fault)) => {
             let devices = all_back(command, list, members, beside);
@@ -122,7 +121,7 @@ pub(crate) fn open_devices<
     let mut opened = Opened { mirror, beside };
     match ask_first(session.alloc, &mut session.asker, asked, notices, names) {
         Ok(()) => {
-            let done = perform_and_store(session, command, &mut opened, names);
+            let done = perform(session, command, &mut opened, names);
             (let_go(command, list, opened, notices), done)
         }
         Err(fault) => (let_go(command, list, opened, notices), Err(fault)),

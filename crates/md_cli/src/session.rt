@@ -1,5 +1,4 @@
 // What a run has of the machine.
-use md_badblocks::BadSet;
 use md_read_commands::Gaps;
 use std::alloc::Global;
 
@@ -10,8 +9,6 @@ use std::alloc::Global;
 ///
 /// Of the sectors that a read is to put out so many stand already, from the first on, where an earlier one was interrupted:
 /// the read goes on behind them. `gaps` has those of them then that were not given to that one.
-///
-/// `lacking` is what each image lacks by its map, in sectors of the image, in the order in which the images are named.
 #[derive(Drop)]
 pub struct Session<'a, T, R: Drop, S: Drop, W, A: Drop> {
     pub rt: &'a T,
@@ -25,5 +22,4 @@ pub struct Session<'a, T, R: Drop, S: Drop, W, A: Drop> {
     pub is_all_out: bool,
     pub stands: u64,
     pub mismatched: Option<u32>,
-    pub lacking: &'a [BadSet],
 }

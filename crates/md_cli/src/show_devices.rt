@@ -2,7 +2,7 @@
 ghost use Rattle.std.specs.Prelude.{◌≡◌, IfOk, codes, length};
 ghost use Rattle.md_commands.specs.Objects.{summary_shown};
 ghost use Rattle.md_messages.specs.Telling.{texts};
-ghost use Rattle.md_report.specs.AsText.WholeArray.SummaryReport.{summary_text};
+ghost use Rattle.md_report.specs.SummaryReport.{summary_text};
 ghost use Rattle.md_cli.specs.Arrays.{ShowsDevices, disks};
 
 use crate::show_short::show_short;

@@ -7,7 +7,7 @@ use Rattle.md_check.specs.declared.fault.CheckFault.{CheckFault}
 use Rattle.md_check.specs.declared.fault.CheckFault.TheVariants as check
 use Rattle.md_check.specs.Checking.{Checks, RefusesCheck}
 use Rattle.md_examine.specs.declared.sink.Sink.{Ghosts}
-use Rattle.md_report.specs.AsText.CheckReport.{check_text}
+use Rattle.md_report.specs.CheckReport.{check_text}
 use Rattle.md_commands.specs.declared.fault.CommandFault.{CommandFault}
 use Rattle.md_commands.specs.Checking.{ChecksMembers, RefusesToCheck}
 use Rattle.md_commands.specs.Output.{FailsOutput, PutsOut}

@@ -15,13 +15,13 @@ use Rattle.md_copy.specs.declared.beginning.fault.RebuildFault.{RebuildFault}
 use Rattle.md_copy.specs.declared.beginning.fault.RebuildFault.TheVariants as rebuild
 use Rattle.md_copy.specs.Table.Sources.{missing_chunks}
 use Rattle.md_copy.specs.declared.rebuilt.Rebuilt.{Rebuilt}
-use Rattle.md_copy.specs.Ending.Leaving.{RecordsAtEnd, LeavesAfter}
-use Rattle.md_copy.specs.Passes.Listing.{EndsListing}
-use Rattle.md_copy.specs.Passes.Passing.{AreListedPasses, BreaksOffPass, CopiesAll, EndsBetween, FailsListing, FailsRecording, LacksMemoryToPass, MakesPart, RecordsPass}
-use Rattle.md_copy.specs.Passes.Stretches.{AreRecorded, slots_after}
-use Rattle.md_copy.specs.Readying.Admission.{AdmitsAfter, AdmitsFirst, EndsAdmitted, LowersTarget}
+use Rattle.md_copy.specs.Leaving.{RecordsAtEnd, LeavesAfter}
+use Rattle.md_copy.specs.Listing.{EndsListing}
+use Rattle.md_copy.specs.Passing.{AreListedPasses, BreaksOffPass, CopiesAll, EndsBetween, FailsListing, FailsRecording, LacksMemoryToPass, MakesPart, RecordsPass}
+use Rattle.md_copy.specs.Stretches.{AreRecorded, slots_after}
+use Rattle.md_copy.specs.Readying.{AdmitsAfter, AdmitsFirst, EndsAdmitted, LowersTarget}
 use Rattle.md_copy.specs.Rebuilding.{BeginsRebuild, EndsFilled, EndsReadied, FillsBy, LacksMemoryToRebuild, LacksRoom, LosesSource, LosesTarget, Rebuilds, RefusesRebuild}
-use Rattle.md_copy.specs.Readying.Storing.{HaltsUntilDone, StoresUntilDone, EndsAtOther}
+use Rattle.md_copy.specs.Storing.{HaltsUntilDone, StoresUntilDone, EndsAtOther}
 use Rattle.md_examine.specs.declared.sink.Sink.{Ghosts}
 use Rattle.md_metadata.specs.declared.coming_back.extent_of_rebuild.RebuildExtent.{RebuildExtent}
 use Rattle.md_metadata.specs.declared.coming_back.extent_of_rebuild.RebuildExtent.TheVariants.{All, Marked}

@@ -3,7 +3,7 @@ use Rattle.std.proofs.Common.{sym, subst}
 use Rattle.std.specs.Prelude.{MatchResult, Result, Ok, Err}
 use Rattle.md_examine.specs.declared.sink.Sink.{Ghosts}
 use Rattle.md_state.specs.View.{MirrorView}
-use Rattle.md_report.specs.AsText.WholeArray.SummaryReport.{summary_text}
+use Rattle.md_report.specs.SummaryReport.{summary_text}
 use Rattle.md_resync.specs.Resyncing.{Resyncs}
 use Rattle.md_commands.specs.declared.fault.CommandFault.{CommandFault}
 use Rattle.md_commands.specs.Output.{FailsOutput, PutsOut}

@@ -7,10 +7,10 @@ use Rattle.md_state.specs.View.{MirrorView}
 use Rattle.md_copy.specs.declared.beginning.fault.RebuildFault.{RebuildFault}
 use Rattle.md_copy.specs.declared.beginning.fault.RebuildFault.TheVariants as rebuild
 use Rattle.md_copy.specs.declared.salvaging.salvaged.Salvaged.{Salvaged}
-use Rattle.md_copy.specs.Ending.Leaving.{LeavesSo}
-use Rattle.md_copy.specs.Passes.Listing.{StoresLists}
+use Rattle.md_copy.specs.Leaving.{LeavesSo}
+use Rattle.md_copy.specs.Listing.{StoresLists}
 use Rattle.md_copy.specs.PassLaws.Passes.{PassView}
-use Rattle.md_copy.specs.Readying.Admission.{RefusesToReady}
+use Rattle.md_copy.specs.Readying.{RefusesToReady}
 use Rattle.md_copy.specs.Salvaging.Filling.{AreSalvaged, BreaksFilling, EndsSalvaging, FailsChunk, SalvagesChunk}
 use Rattle.md_copy.specs.Salvaging.Losing.{EnrolsWithout, EndsWithout, FailsWithout, NotesLost, every_role}
 use Rattle.md_copy.specs.Salvaging.Steps.{EndsSalvageReadied, FailsWhole, FillsBut, RefusesSalvage, Salvages}

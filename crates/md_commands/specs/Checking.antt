@@ -4,8 +4,8 @@ use Rattle.md_bitmap.specs.Marks.{count_set}
 use Rattle.md_check.specs.Checking.{Checks, ComparesMembers, RefusesCheck}
 use Rattle.md_check.specs.declared.found.Comparison.{Comparison}
 use Rattle.md_examine.specs.declared.sink.Sink.{Ghosts}
-use Rattle.md_report.specs.AsText.CheckReport.{check_text}
-use Rattle.md_report.specs.AsText.WholeArray.SummaryReport.{in_sync_members}
+use Rattle.md_report.specs.CheckReport.{check_text}
+use Rattle.md_report.specs.SummaryReport.{in_sync_members}
 use Rattle.md_state.specs.View.{ArrayView, MirrorView}
 use Rattle.md_commands.specs.declared.fault.CommandFault.{CommandFault}
 use Rattle.md_commands.specs.declared.fault.CommandFault.TheVariants.{Check, OutputFault}

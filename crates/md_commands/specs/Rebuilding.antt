@@ -6,7 +6,7 @@ use Rattle.md_copy.specs.declared.beginning.fault.RebuildFault.{RebuildFault}
 use Rattle.md_copy.specs.declared.rebuilt.Rebuilt.{Rebuilt}
 use Rattle.md_copy.specs.Rebuilding.{Rebuilds, RefusesRebuild}
 use Rattle.md_examine.specs.declared.sink.Sink.{Ghosts}
-use Rattle.md_report.specs.AsText.Rebuilds.RebuiltReport.{rebuilt_line, rebuilt_text}
+use Rattle.md_report.specs.RebuiltReport.{rebuilt_line, rebuilt_text}
 use Rattle.md_state.specs.Trying.{Refuses}
 use Rattle.md_state.specs.View.{ArrayView, MirrorView}
 use Rattle.md_kept_members.specs.View.{MemberView}

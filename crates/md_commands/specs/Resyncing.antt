@@ -5,7 +5,7 @@ use Rattle.md_state.specs.Members.{is_degraded}
 use Rattle.md_state.specs.View.{ArrayView, MirrorView}
 use Rattle.md_resync.specs.declared.fault.ResyncFault.{ResyncFault}
 use Rattle.md_resync.specs.Resyncing.{RefusesResync, Resyncs}
-use Rattle.md_report.specs.AsText.WholeArray.SummaryReport.{summary_text}
+use Rattle.md_report.specs.SummaryReport.{summary_text}
 use Rattle.md_commands.specs.declared.fault.CommandFault.{CommandFault}
 use Rattle.md_commands.specs.declared.fault.CommandFault.TheVariants.{OutputFault, Resync, Stop}
 use Rattle.md_commands.specs.Output.{PutsOut}

@@ -5,8 +5,8 @@ use Rattle.md_copy.specs.declared.salvaging.salvaged.Salvaged.{Salvaged}
 use Rattle.md_copy.specs.Salvaging.Steps.{RefusesSalvage, Salvages}
 use Rattle.md_examine.specs.declared.sink.Sink.{Ghosts}
 use Rattle.md_report.specs.AsJson.Objects.{object_line}
-use Rattle.md_report.specs.AsJson.Rebuilds.SalvagedObject.{salvaged_object}
-use Rattle.md_report.specs.AsText.Rebuilds.SalvagedReport.{salvaged_line, salvaged_text}
+use Rattle.md_report.specs.AsJson.SalvagedObject.{salvaged_object}
+use Rattle.md_report.specs.SalvagedReport.{salvaged_line, salvaged_text}
 use Rattle.md_state.specs.Trying.{Refuses}
 use Rattle.md_state.specs.View.{MirrorView}
 use Rattle.md_commands.specs.declared.fault.CommandFault.{CommandFault}

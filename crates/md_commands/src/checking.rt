@@ -4,8 +4,8 @@ ghost use Rattle.md_inflight.specs.Requests.Pending.{PendingView};
 ghost use Rattle.md_state.specs.Requests.{IsPending};
 ghost use Rattle.md_array.specs.Consistency.{IsConsistent};
 ghost use Rattle.md_check.specs.Checking.{IsToldOfMembers};
-ghost use Rattle.md_report.specs.AsJson.WholeArray.MemberObjects.{texts_of};
-ghost use Rattle.md_report.specs.AsText.CheckReport.{list_text};
+ghost use Rattle.md_report.specs.AsJson.MemberObjects.{texts_of};
+ghost use Rattle.md_report.specs.CheckReport.{list_text};
 ghost use Rattle.md_commands.specs.Checking.{ChecksMembers, ListsMismatches, RefusesToCheck, RefusesToList, sectors_to_read};
 ghost use Rattle.md_commands.specs.Objects.{checked_line};
 

@@ -4,7 +4,7 @@ ghost use Rattle.md_inflight.specs.Requests.Pending.{PendingView};
 ghost use Rattle.md_state.specs.Steps.Fail.{FailsMember};
 ghost use Rattle.md_state.specs.Requests.{IsPending};
 ghost use Rattle.md_array.specs.Consistency.{IsConsistent};
-ghost use Rattle.md_report.specs.AsText.WholeArray.SummaryReport.{summary_text};
+ghost use Rattle.md_report.specs.SummaryReport.{summary_text};
 ghost use Rattle.md_commands.specs.Failing.{RefusesFailing, RefusesToFail};
 ghost use Rattle.md_commands.specs.Stopping.{StopsArrayAfter};
 

@@ -2,7 +2,7 @@
 ghost use Rattle.std.specs.Prelude.{◌≡◌, MatchResult};
 ghost use Rattle.md_bitmap.specs.Marks.{count_set};
 ghost use Rattle.md_check.specs.Differences.{IsSized};
-ghost use Rattle.md_report.specs.AsJson.WholeArray.MemberObjects.{texts_of};
+ghost use Rattle.md_report.specs.AsJson.MemberObjects.{texts_of};
 ghost use Rattle.md_commands.specs.Objects.{checked_line, detail_line, planned_line, rebuilt_object_line, summary_line};
 ghost use Rattle.md_commands.specs.Output.{FailsOutput, PutsOut};
 ghost use Rattle.md_commands.specs.Salvaging.{salvaged_object_line};

@@ -1,8 +1,8 @@
 // The command that plans the rebuild of a member.
 ghost use Rattle.std.specs.Prelude.{◌<◌, MatchResult, length};
 ghost use Rattle.md_array.specs.Consistency.{IsConsistent};
-ghost use Rattle.md_report.specs.AsJson.WholeArray.MemberObjects.{texts_of};
-ghost use Rattle.md_report.specs.AsText.Rebuilds.RebuiltReport.{planned_text};
+ghost use Rattle.md_report.specs.AsJson.MemberObjects.{texts_of};
+ghost use Rattle.md_report.specs.RebuiltReport.{planned_text};
 ghost use Rattle.md_commands.specs.Planning.{IsRebuildPlan, RefusesPlan, RefusesPlanTarget, RefusesToPlan, ShowsPlan};
 ghost use Rattle.md_commands.specs.Objects.{planned_line};
 

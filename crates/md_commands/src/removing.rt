@@ -5,7 +5,7 @@ ghost use Rattle.md_state.specs.Steps.Remove.{Removes};
 ghost use Rattle.md_state.specs.Requests.{IsPending};
 ghost use Rattle.md_state.specs.View.{disk_of};
 ghost use Rattle.md_array.specs.Consistency.{IsConsistent};
-ghost use Rattle.md_report.specs.AsText.WholeArray.SummaryReport.{summary_text};
+ghost use Rattle.md_report.specs.SummaryReport.{summary_text};
 ghost use Rattle.md_commands.specs.Removing.{HandsBack, RefusesRemoving, RefusesToRemove, RemovesMember};
 ghost use Rattle.md_commands.specs.Stopping.{StopsArrayAfter};
 

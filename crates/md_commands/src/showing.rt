@@ -1,8 +1,8 @@
 // The commands that show an array.
-ghost use Rattle.md_report.specs.AsText.WholeArray.DetailReport.{detail_text};
-ghost use Rattle.md_report.specs.AsText.WholeArray.SummaryReport.{summary_text};
-ghost use Rattle.md_report.specs.AsText.WholeArray.VerboseReport.{verbose_text};
-ghost use Rattle.md_report.specs.AsJson.WholeArray.MemberObjects.{texts_of};
+ghost use Rattle.md_report.specs.DetailReport.{detail_text};
+ghost use Rattle.md_report.specs.SummaryReport.{summary_text};
+ghost use Rattle.md_report.specs.VerboseReport.{verbose_text};
+ghost use Rattle.md_report.specs.AsJson.MemberObjects.{texts_of};
 ghost use Rattle.md_commands.specs.Objects.{detail_line, summary_line};
 ghost use Rattle.md_commands.specs.Output.{ShowsText};
 

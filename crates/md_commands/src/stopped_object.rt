@@ -3,7 +3,7 @@ ghost use Rattle.std.specs.Prelude.{MatchResult, codes};
 ghost use Rattle.md_inflight.specs.Requests.Pending.{PendingView};
 ghost use Rattle.md_state.specs.Requests.{IsPending};
 ghost use Rattle.md_array.specs.Consistency.{IsConsistent};
-ghost use Rattle.md_report.specs.AsJson.WholeArray.MemberObjects.{texts_of};
+ghost use Rattle.md_report.specs.AsJson.MemberObjects.{texts_of};
 ghost use Rattle.md_commands.specs.Objects.{summary_line};
 ghost use Rattle.md_commands.specs.Stopping.{RefusesToStop, StopsArray};
 

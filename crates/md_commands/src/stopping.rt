@@ -3,7 +3,7 @@ ghost use Rattle.std.specs.Prelude.{MatchResult};
 ghost use Rattle.md_inflight.specs.Requests.Pending.{PendingView};
 ghost use Rattle.md_state.specs.Requests.{IsPending};
 ghost use Rattle.md_array.specs.Consistency.{IsConsistent};
-ghost use Rattle.md_report.specs.AsText.WholeArray.SummaryReport.{summary_text};
+ghost use Rattle.md_report.specs.SummaryReport.{summary_text};
 ghost use Rattle.md_commands.specs.Stopping.{RefusesToStop, StopsArray};
 
 use crate::fault::CommandFault;

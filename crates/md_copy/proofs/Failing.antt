@@ -7,7 +7,7 @@ use Rattle.md_device.specs.declared.fault_list.Fault.{Fault}
 use Rattle.md_device.specs.Failing.{EachNewFault}
 use Rattle.md_device.proofs.Failing.{fails_none, fails_since, fails_still, fails_then, fails_weaker}
 use Rattle.md_state.specs.View.{Disk, MirrorView, of_disks}
-use Rattle.md_copy.specs.Passes.Filling.{HaveFailedThere}
+use Rattle.md_copy.specs.Filling.{HaveFailedThere}
 
 abbrev Any : Fault → Type 0
 Any f = ⊤

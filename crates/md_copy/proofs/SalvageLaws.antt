@@ -8,8 +8,6 @@ pub mod ChunkRuns
 pub mod SalvageLeads
 -- A salvage that is refused is a list of events, of which the last may spoil its target.
 pub mod UnsalvagedLeads
--- A salvage for which a log has no room is a list of events by which no list of a member changes.
-pub mod UnlistedLeads
 -- What a salvage leaves as it was up to the moment at which the target may come into sync.
 pub mod SectorsKept
 -- What chunks that were filled come to, and which of their sectors no member in sync gave.

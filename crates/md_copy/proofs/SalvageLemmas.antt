@@ -2,8 +2,6 @@
 pub mod RunsUnited
 -- Lists that are made on trial: each is the only one of its sectors.
 pub mod Rooms
--- Which sectors are listed is so where lists, states and the room in the logs are as before.
-pub mod SameRoom
 -- A run of sectors that the target lacks was written to it: the devices are back.
 pub mod RunPut
 -- While sectors of the target are filled, the other devices are only read.

@@ -1,13 +1,27 @@
--- What is known of a rebuild before anything is copied.
-pub mod Table
--- From the call to the moment at which a pass may be planned (this project's own order).
+-- The sources of a plan: the members from which its chunks are read.
+pub mod RebuildSources
+-- What the members have to know is stored before a rebuild, and after it (this project's own order).
+pub mod Storing
+-- What a recovering target holds of the array, as long as it is copied from members that are in sync.
+pub mod Held
+-- When a rebuild may go on, and when how far it came may be recorded.
+pub mod Ready
+-- How far the target is rebuilt is recorded on it before a fault is answered (this project's own).
+pub mod Leaving
+-- Before a pass what the members have to know is stored, and a spare is admitted (this project's own order).
 pub mod Readying
--- The passes of a rebuild, in stretches, and what is listed between them.
-pub mod Passes
--- How a rebuild ends: its target comes into sync, or how far it came is recorded (this project's own).
-pub mod Ending
 -- What is told of a rebuild, and the fault of one that found no memory.
 pub mod Preparing
+-- The target gets chunks, each from a member that serves it. No other device is written.
+pub mod Filling
+-- Chunks that could not be read are listed as bad on their sources, and the lists are stored.
+pub mod Listing
+-- A pass over a mirror in stretches, each of which is recorded.
+pub mod Stretches
+-- A rebuild's passes over a mirror, step by step.
+pub mod Passing
+-- The target comes into sync after its passes, or it does not.
+pub mod Enrolled
 -- A rebuild step by step (this project's own).
 pub mod Rebuilding
 -- What a rebuild makes of its target, in plain terms, whatever the steps were (this project's own).
@@ -20,5 +34,7 @@ pub mod RebuildEvents
 pub mod PassLaws
 -- What a gate is told of a rebuild.
 pub mod Told
+-- What is known of a rebuild before anything is copied.
+pub mod Table
 -- A salvage, which loses sectors and no chunk for a sector (this project's own).
 pub mod Salvaging

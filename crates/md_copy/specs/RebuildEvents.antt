@@ -14,8 +14,8 @@ use Rattle.md_metadata.specs.Going.{LeadsBy}
 use Rattle.md_metadata.specs.Storing.{IsFailureOf, IsNoFailure, IsStoring}
 use Rattle.md_copy.specs.declared.beginning.fault.RebuildFault.{RebuildFault}
 use Rattle.md_copy.specs.declared.beginning.fault.RebuildFault.TheVariants.{Halted, NotSpare, Dirty, InFlight, LogFull, NoMemory, TargetFault, MetadataFault, EventsFull}
-use Rattle.md_copy.specs.Ending.Leaving.{RecordsAtEnd}
-use Rattle.md_copy.specs.Passes.Listing.{IsNoting, IsStoringList}
+use Rattle.md_copy.specs.Leaving.{RecordsAtEnd}
+use Rattle.md_copy.specs.Listing.{IsNoting, IsStoringList}
 use Rattle.md_copy.specs.Rebuilding.{LosesTarget, RefusesRebuild}
 
 -- ---- which events

@@ -13,12 +13,12 @@ use Rattle.md_copy.specs.declared.beginning.fault.RebuildFault.TheVariants.{Halt
 use Rattle.md_copy.specs.Table.Beginning.{CannotRebuild, MayBeginRebuild}
 use Rattle.md_copy.specs.Table.Orphans.{IsSetOf, uncopied_chunks}
 use Rattle.md_copy.specs.declared.rebuilt.Rebuilt.{Rebuilt}
-use Rattle.md_copy.specs.Ending.Enrolled.{HasSets, LacksMemoryToEnrol, LacksOwnRoom}
-use Rattle.md_copy.specs.Ending.Leaving.{HasNone, LeavesAfter}
-use Rattle.md_copy.specs.Passes.Passing.{BreaksOffPass, CopiesAll, EndsBetween, FailsListing, FailsRecording, LacksMemoryToPass}
+use Rattle.md_copy.specs.Enrolled.{HasSets, LacksMemoryToEnrol, LacksOwnRoom}
+use Rattle.md_copy.specs.Leaving.{HasNone, LeavesAfter}
+use Rattle.md_copy.specs.Passing.{BreaksOffPass, CopiesAll, EndsBetween, FailsListing, FailsRecording, LacksMemoryToPass}
 use Rattle.md_copy.specs.Preparing.{TellsPasses}
-use Rattle.md_copy.specs.Readying.Admission.{FailsAdmission, LacksAdmission, LowersTarget, Readies, EndsAdmitted}
-use Rattle.md_copy.specs.Readying.Storing.{FailsToRecordTarget, StoresUntilDone, EndsAtOther}
+use Rattle.md_copy.specs.Readying.{FailsAdmission, LacksAdmission, LowersTarget, Readies, EndsAdmitted}
+use Rattle.md_copy.specs.Storing.{FailsToRecordTarget, StoresUntilDone, EndsAtOther}
 
 -- A rebuild was checked, a recovering target says no more that it has what it lacks, what is due is stored, and a spare is admitted. No
 -- chunk is copied yet.

@@ -28,8 +28,8 @@ use Rattle.md_copy.specs.PassLaws.Passes.{IsCopiedIn, PassView}
 use Rattle.md_copy.specs.Table.Orphans.{is_in, uncopied_chunks}
 use Rattle.md_copy.specs.Table.Sources.{missing_chunks}
 use Rattle.md_copy.specs.declared.rebuilt.Rebuilt.{Rebuilt}
-use Rattle.md_copy.specs.Passes.Filling.{CountsFailed, HaveFailedThere}
-use Rattle.md_copy.specs.Passes.Listing.{HasFailedSlot, HasListOn}
+use Rattle.md_copy.specs.Filling.{CountsFailed, HaveFailedThere}
+use Rattle.md_copy.specs.Listing.{HasFailedSlot, HasListOn}
 use Rattle.md_copy.specs.Preparing.{TellsPasses}
 
 -- The member was in sync before, and lists no sector of the chunk then.

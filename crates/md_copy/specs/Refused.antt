@@ -27,8 +27,8 @@ use Rattle.md_copy.specs.declared.beginning.fault.RebuildFault.{RebuildFault}
 use Rattle.md_copy.specs.declared.beginning.fault.RebuildFault.TheVariants.{Halted, NotSpare, Dirty, InFlight, LogFull, NoMemory, TargetFault, MetadataFault, EventsFull}
 use Rattle.md_copy.specs.Table.Orphans.{is_in, uncopied_chunks}
 use Rattle.md_copy.specs.Table.Sources.{missing_chunks}
-use Rattle.md_copy.specs.Passes.Filling.{CountsFailed, HaveFailedThere}
-use Rattle.md_copy.specs.Passes.Listing.{HasFailedSlot}
+use Rattle.md_copy.specs.Filling.{CountsFailed, HaveFailedThere}
+use Rattle.md_copy.specs.Listing.{HasFailedSlot}
 use Rattle.md_copy.specs.Rebuilt.{KeepStates, ListsGrow, failed_of}
 
 -- ---- the passes that were made

@@ -4,11 +4,11 @@ ghost use Rattle.md_state.specs.View.{MirrorView};
 ghost use Rattle.md_array.specs.Consistency.{IsConsistent};
 ghost use Rattle.md_copy.specs.declared.beginning.fault.RebuildFault.{RebuildFault};
 ghost use Rattle.md_copy.specs.declared.rebuilt.Rebuilt.{Rebuilt};
-ghost use Rattle.md_copy.specs.Readying.Admission.{FailsAdmission};
+ghost use Rattle.md_copy.specs.Readying.{FailsAdmission};
 ghost use Rattle.md_copy.specs.RebuildEvents.{FailsCheckpoint, LeadsUnadmitted, LeadsUnfinished, LeadsUnrecorded, RebuildLeads};
 ghost use Rattle.md_copy.specs.Rebuilding.{Rebuilds, RefusesRebuild};
 ghost use Rattle.md_copy.specs.Rebuilt.{HasRebuilt, IsRebuiltInSync};
-ghost use Rattle.md_copy.specs.Passes.Stretches.{StretchesMadeAsOne};
+ghost use Rattle.md_copy.specs.Stretches.{StretchesMadeAsOne};
 
 /// From the moment at which a pass may be planned to that at which the target is in sync: whatever the steps of a
 /// rebuild, its target is rebuilt.

@@ -1,14 +1,10 @@
 //! The rebuild of a member: what is copied to it, and from where.
 //!
-//! Start with `rebuild`, the whole call (`whole_rebuild.rt`), which takes the folders in this order. What holds of a
+//! Start with `rebuild`, the whole call (`whole_rebuild.rt`), and `passes.rt`, its loop. What holds of a
 //! rebuild that is done is `HasRebuilt` in `specs/Rebuilt.antt`.
 //!
-//! `beginning/`: what a rebuild would copy, and why a member is not rebuilt, before anything is copied.
-//! `readying/`: what is due is stored, and a spare is admitted.
-//! `passes/`: what can be read is copied, and what could not be read is listed on its sources.
-//! `ending/`: the target comes into sync, or how far it came is recorded.
-//!
 //! `pass_laws/`: the passes of a rebuild, as plans one after another.
+//! `beginning/`: what a rebuild would copy, and why a member is not rebuilt, before anything is copied.
 //! `salvaging/`: a rebuild that loses sectors, and no chunk for a sector.
 //!
 //! ```
@@ -17,13 +13,23 @@
 #![tactic(auto)]
 
 mod beginning;
-mod ending;
+mod enrol_filled;
+mod fill;
 pub mod laws;
+mod leave;
+mod list_failed;
+mod next_table;
+mod one_pass;
+mod orphans;
 mod pass_laws;
 mod passes;
 mod readying;
 mod rebuilt;
 mod salvaging;
+mod sources;
+mod storing;
+mod stretches;
+mod until_done;
 mod whole_rebuild;
 
 pub use beginning::{RebuildFault, check_rebuild, keep_missing, marks_of, table, uncopied_chunks};

@@ -20,13 +20,13 @@ use Rattle.md_raw_reports.specs.BitmapFields.{bitmap_all_text}
 use Rattle.md_raw_reports.specs.LogFields.{log_all_text}
 use Rattle.md_raw_reports.specs.declared.raw_bitmap.RawBitmap.{RawBitmap}
 use Rattle.md_raw_reports.specs.declared.super_fields.Found.{Found}
-use Rattle.md_report.specs.AsJson.OneImage.BadblocksObject.{badblocks_object}
-use Rattle.md_report.specs.AsJson.OneImage.BitmapObject.{bitmap_object}
+use Rattle.md_report.specs.AsJson.BadblocksObject.{badblocks_object}
+use Rattle.md_report.specs.AsJson.BitmapObject.{bitmap_object}
 use Rattle.md_report.specs.AsJson.Objects.{object_line}
 use Rattle.md_raw_reports.specs.RawJson.RawBitmap.{raw_bitmap_object}
 use Rattle.md_raw_reports.specs.RawJson.RawLog.{raw_log_object}
 use Rattle.md_raw_reports.specs.RawJson.RawSuper.{raw_super_object}
-use Rattle.md_report.specs.AsJson.OneImage.SuperblockObject.{superblock_object}
+use Rattle.md_report.specs.AsJson.SuperblockObject.{superblock_object}
 use Rattle.md_raw_reports.specs.RawMembers.Elsewhere.{FindsElsewhere}
 use Rattle.md_raw_reports.specs.RawMembers.Raw.{ReadsRawBitmap, ReadsFront, ReadsRawLog, RefusesRawBitmap, RefusesRawSuper, RefusesRawLog}
 use Rattle.md_raw_reports.specs.declared.raw_members.fault.RawFault.{RawFault}

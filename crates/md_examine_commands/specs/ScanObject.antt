@@ -8,7 +8,7 @@ use Rattle.md_assembly.specs.declared.state.MemberState.{MemberState}
 use Rattle.md_assembly.specs.declared.state.MemberState.TheVariants.{InSync, Recovering, Stale, Spare, Faulty}
 use Rattle.md_assembly.specs.States.{role_of, state_of}
 use Rattle.md_examine.specs.Lines.{name_text}
-use Rattle.md_report.specs.AsJson.WholeArray.MemberObjects.{number_or_null}
+use Rattle.md_report.specs.AsJson.MemberObjects.{number_or_null}
 use Rattle.md_report.specs.AsJson.Objects.{Field, field, list_of, object_of, report_of, whole}
 use Rattle.md_examine_commands.specs.ScanText.{decider, fills_role, fresher, is_same_array, is_told_before}
 use Rattle.md_examine_commands.specs.Unshown.{refused_value}

@@ -7,7 +7,7 @@ use Rattle.md_commands.specs.declared.fault.CommandFault.TheVariants.{Declined, 
 use Rattle.md_messages.specs.declared.asker.Asker.{Ghosts}
 use Rattle.md_messages.specs.declared.notices.Notices.{Notices}
 use Rattle.md_messages.specs.Noticed.{asks_first}
-use Rattle.md_messages.specs.Telling.{asked_text}
+use Rattle.md_messages.specs.Telling.{first_text}
 
 -- A relation between what was noticed, who is asked, before and after that, and whether the command goes on (`Ok`), or why it does
 -- not.
@@ -21,7 +21,7 @@ module _ {A : Type 0} (g : Ghosts A) (ask : Ask) (names : List Text) where
 
   -- It was asked once, with these very lines, and this was the answer.
   abbrev pub IsAnswered : Notices → Bool → A → A → Type 0
-  IsAnswered n goes_on old new = g.asks old new (asked_text ask names n) goes_on
+  IsAnswered n goes_on old new = g.asks old new (first_text ask names n) goes_on
 
   -- The command goes on: the answer was yes, or there is no question, and nobody was asked.
   pub record IsAgreed (n : Notices) (old new : A) : Type 0 where

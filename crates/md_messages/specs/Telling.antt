@@ -1,6 +1,6 @@
 -- What standard error is told of what was noticed: which lines, in which order. The names are those of the members' images, in their
 -- order, and a line of a member has its image's name. The lines themselves are those of `md_notices`.
-use Rattle.std.specs.Prelude.{◌≡◌, ◌⊎◌, ℕ, ◌==◌, not, Bool, true, false, List, [], ◌++◌, length, map, take, Option, Some, None, is_some, Result, Ok, Err, slice_get, get_or, unwrap_or, count_by, if◌then◌else◌}
+use Rattle.std.specs.Prelude.{◌≡◌, ◌⊎◌, ℕ, ◌==◌, not, Bool, true, false, List, [], ◌++◌, length, map, take, Option, Some, None, is_some, Result, Ok, Err, slice_get, get_or, count_by, if◌then◌else◌}
 use Rattle.std.specs.List.{flat_map, list_any, range_with_len}
 use Rattle.std.specs.Borrow.{Bor}
 use Rattle.clap.specs.Words.{Text}
@@ -15,8 +15,7 @@ use Rattle.md_notices.specs.Held.Holding.{is_unseen}
 use Rattle.md_images.specs.Taking.{is_missing_word}
 use Rattle.md_notices.specs.Lines.{chunks_lost_text, dropped_text, forgotten_text, held_text, lost_text, marked_line_text, parted_text, identity_text, listed_text, uncompared_text, ungiven_text, unnamed_text, unread_text, unseen_text}
 use Rattle.md_notices.specs.Signatures.Texts.{text_of}
-use Rattle.md_notices.specs.UngivenLine.{ungiven_chunks_text}
-use Rattle.md_words.specs.Asks.{Ask, adds, checks, device_to_add, loss_of, member_of, overwritten_by}
+use Rattle.md_words.specs.Asks.{Ask, adds, checks, device_to_add, loss_of, overwritten_by}
 use Rattle.md_words.specs.declared.loss.Loss.{Loss}
 use Rattle.md_words.specs.declared.loss.Loss.TheVariants.{Chunks, Sectors}
 use Rattle.md_words.specs.declared.overwritten.Overwritten.{Overwritten}
@@ -29,7 +28,7 @@ use Rattle.md_messages.specs.declared.notices.Notices.{Notices}
 use Rattle.md_messages.specs.Holding.{held_each}
 use Rattle.md_read_commands.specs.declared.gaps.Gaps.{Gaps}
 use Rattle.md_messages.specs.Missing.{gap_lines}
-use Rattle.md_messages.specs.Noticed.{asks_first, was_parted}
+use Rattle.md_messages.specs.Noticed.{asks_first}
 
 -- the texts of words
 abbrev pub texts : List (Bor Text) → List Text
@@ -91,15 +90,9 @@ abbrev pub dropped_at : Notices → List Text → ℕ → List ℕ
 dropped_at n = line_at (dropped_line n) n.dropped
 
 -- ---- members that list more sectors as bad
-abbrev pub listed_line : Option MemberState → Bool → Option ℕ → Text → List ℕ
-listed_line was by_chunks None name = []
-listed_line was by_chunks (Some count) name = listed_text name was by_chunks count
-
--- whole chunks are listed for a bad sector
-abbrev pub loses_chunks : Option Loss → Bool
-loses_chunks (Some Chunks) = true
-loses_chunks (Some Sectors) = false
-loses_chunks None = false
+abbrev pub listed_line : Option MemberState → Option ℕ → Text → List ℕ
+listed_line was None name = []
+listed_line was (Some count) name = listed_text name was count
 
 -- the name of the member in a place: a device that joins comes after the others
 abbrev pub member_name : Ask → List Text → ℕ → Option Text
@@ -107,8 +100,7 @@ member_name ask names k = if k == length names then device_to_add ask else slice
 
 abbrev pub listed_text_at : Ask → Notices → List Text → ℕ → List ℕ
 listed_text_at ask n names k =
-    line_of (listed_line (get_or n.states k None) (loses_chunks (loss_of ask)) (get_or n.more_listed k None))
-    (member_name ask names k)
+    line_of (listed_line (get_or n.states k None) (get_or n.more_listed k None)) (member_name ask names k)
 
 -- ---- what images hold
 abbrev pub held_line : Text → Held → List ℕ
@@ -143,26 +135,17 @@ each_at each names k =
 abbrev pub each_lines : List Held → List Text → List ℕ
 each_lines each names = flat_map (each_at each names) (range_with_len 0 (length names))
 
--- the member that is to be rebuilt, where it was used without the others
-abbrev pub target_line : Notices → List Text → ℕ → List ℕ
-target_line n names k = if was_parted n k then line_of (parted_line n names) (slice_get names k) else []
-
 -- ---- What is said before a command is done, where it is asked of.
 unfoldable pub first_by : Overwritten → Option Text → List Text → Notices → List ℕ
 first_by overwritten.Nothing device names n = []
 first_by overwritten.Images device names n = each_lines (held_each n.each) names
 first_by overwritten.NewDevice device names n = line_of (new_line n) device
 first_by overwritten.ReturningDevice device names n = line_of (returning_line n names) device
-first_by (overwritten.Member k) device names n = target_line n names k
+first_by (overwritten.Member k) device names n = line_of (parted_line n names) (slice_get names k)
 
 abbrev pub first_text : Ask → List Text → Notices → List ℕ
 first_text ask names n =
     if asks_first ask n then first_by (overwritten_by ask) (device_to_add ask) names n else []
-
--- What is shown with the question: that, and which chunks would be listed whole. Where nothing was shown before, the first is said after
--- the command, and not the second: what was listed then is said in its place.
-unfoldable pub asked_text : Ask → List Text → Notices → List ℕ
-asked_text ask names n = first_text ask names n ++ ungiven_chunks_text n.ungiven
 
 -- the member that was asked of
 abbrev pub asked_member : Overwritten → Bool → Option ℕ
@@ -200,30 +183,18 @@ noticed_text audience ask names n =
 abbrev pub lists_more : Notices → Bool
 lists_more n = list_any (λ count. is_some count) n.more_listed
 
--- The place of the member that is rebuilt: the one that is named, or the device that joins after the others.
-abbrev pub rebuilt_place : Ask → List Text → ℕ
-rebuilt_place ask names = unwrap_or (member_of ask) (length names)
-
--- The member that is rebuilt lists more sectors as bad than before.
-abbrev pub rebuilt_lists_more : Ask → List Text → Notices → Bool
-rebuilt_lists_more ask names n = is_some (unwrap_or (slice_get n.more_listed (rebuilt_place ask names)) None)
-
--- Where the member that is rebuilt lists more it is said that chunks were not to be lost.
-abbrev pub chunks_lost_if : Bool → List ℕ
-chunks_lost_if listed = if listed then chunks_lost_text else []
-
 -- Where a rebuild is done: which sectors of the array no member in sync gives. One that loses chunks says so only where some member
--- lists more sectors as bad than before.
-abbrev pub loss_text : Loss → Bool → Notices → List ℕ
-loss_text Sectors listed n = ungiven_text n.lost
-loss_text Chunks listed n = if lists_more n then ungiven_text n.lost ++ chunks_lost_if listed else []
+-- lists more sectors as bad than before, and says then that chunks need not be lost.
+abbrev pub loss_text : Loss → Notices → List ℕ
+loss_text Sectors n = ungiven_text n.lost
+loss_text Chunks n = if lists_more n then ungiven_text n.lost ++ chunks_lost_text else []
 
-abbrev pub loss_if_some : Option Loss → Bool → Notices → List ℕ
-loss_if_some None listed n = []
-loss_if_some (Some loss) listed n = loss_text loss listed n
+abbrev pub loss_if_some : Option Loss → Notices → List ℕ
+loss_if_some None n = []
+loss_if_some (Some loss) n = loss_text loss n
 
-abbrev pub loss_lines : Ask → List Text → Notices → List ℕ
-loss_lines ask names n = loss_if_some (loss_of ask) (rebuilt_lists_more ask names n) n
+abbrev pub loss_lines : Ask → Notices → List ℕ
+loss_lines ask n = loss_if_some (loss_of ask) n
 
 -- a check that is done compared nothing, where one member is in sync alone
 abbrev pub uncompared_lines : Ask → List Text → Notices → List ℕ
@@ -238,7 +209,7 @@ lost_lines audience ask = []
 -- All that standard error is told of a command that is done.
 unfoldable pub told_text : Audience → Ask → List Text → Notices → List ℕ
 told_text audience ask names n =
-    noticed_text audience ask names n ++ listed_lines ask names n ++ loss_lines ask names n
+    noticed_text audience ask names n ++ listed_lines ask names n ++ loss_lines ask n
     ++ uncompared_lines ask names n ++ lost_lines audience ask
 
 -- Of a command that is refused it is told too, after the fault and what to do. The image that was to be added has joined where the stop

@@ -1,29 +1,27 @@
 // What is said beside a report, where a command is done.
-ghost use Rattle.std.specs.Prelude.{◌≡◌, ◌↔◌, ◌&&◌, IfErr, IfOk, IsTrue, None, length, map, slice_get, unwrap_or};
-ghost use Rattle.md_array.specs.Consistency.{IsConsistent};
-ghost use Rattle.md_words.specs.Asks.{ask_of, loss_of, overwritten_by};
+ghost use Rattle.std.specs.Prelude.{◌≡◌, ◌↔◌, IfErr, IfOk, IsTrue, length, map};
+ghost use Rattle.md_words.specs.Asks.{ask_of};
 ghost use Rattle.md_state.specs.View.{disk_of};
 ghost use Rattle.md_words.specs.declared.overwritten.Overwritten.TheVariants as overwritten;
 ghost use Rattle.md_messages.specs.Holding.{IsJoining, IsOwn, NotesHeld, NotesHeldOnEach, one_needs_telling};
-ghost use Rattle.md_messages.specs.Noticed.{NotesOpening, asked_of, asks_first, asks_before, nothing, parted_members, ungiven_by, was_parted, was_spare, with_dropped, without_stored};
+ghost use Rattle.md_messages.specs.Noticed.{NotesOpening, asked_of, asks_first, asks_before, nothing, parted_members, was_spare, with_dropped, without_stored};
 
 use md_array::Mirror;
 use md_assembly::MemberState;
 use md_device::Device;
 use md_notices::{
-    Asked, Held, Lost, MAX_MEMBERS, MAX_ROLES, UngivenChunks, chunks_ungiven, find_lost,
-    first_in_sync, held_on, held_on_each, in_sync_count, is_forgotten, members_dropped,
-    members_listing, members_listing_more, members_marked, members_parted, roles_unnamed,
-    states_of, was_apart,
+    Asked, Held, Lost, MAX_MEMBERS, MAX_ROLES, find_lost, first_in_sync, held_on, held_on_each,
+    in_sync_count, is_forgotten, members_dropped, members_listing, members_listing_more,
+    members_marked, members_parted, roles_unnamed, states_of, was_apart,
 };
 use md_super::Superblock;
-use md_words::{Command, Loss, Overwritten};
+use md_words::{Command, Overwritten};
 use std::alloc::{AllocError, Global};
 
 /// What is noticed of an array as it is opened, and as a command leaves it, by the places of the images among its
 /// members, and by its roles: on which images marks were stored, and which member is in sync alone; which members were
 /// used without those in sync, of which one is named, and which devices were not named; which members dropped out, and
-/// how many of how many are in sync then; which chunks a rebuild would list whole; which list more sectors as bad than before, and how many; and which sectors of
+/// how many of how many are in sync then; which list more sectors as bad than before, and how many; and which sectors of
 /// the array no member in sync gives then. It is told after the command: of a refused one it may be nothing but the
 /// fault that is told.
 #[derive(Drop)]
@@ -34,7 +32,6 @@ pub struct Notices {
     pub source: Option<usize>,
     pub unnamed: [Option<u32>; MAX_ROLES],
     pub states: [Option<MemberState>; MAX_MEMBERS],
-    pub ungiven: UngivenChunks,
     pub listed: [u64; MAX_MEMBERS],
     pub dropped: [bool; MAX_MEMBERS],
     pub more_listed: [Option<u64>; MAX_MEMBERS],
@@ -58,7 +55,6 @@ impl Notices {
             source: None,
             unnamed: [None; MAX_ROLES],
             states: [None; MAX_MEMBERS],
-            ungiven: UngivenChunks::none(),
             listed: [0; MAX_MEMBERS],
             dropped: [false; MAX_MEMBERS],
             more_listed: [None; MAX_MEMBERS],
@@ -97,7 +93,6 @@ impl Notices {
 
     /// Notes what the opening of this mirror tells.
     pub fn note<D: Device + Drop>(&mut self, command: Command<'_>, mirror: &Mirror<D>)
-        requires { IsConsistent mirror.now }
         ensures { NotesOpening (ask_of command.entry) mirror.now.array self.old self.new }
     {
         self.own = is_own(command.overwrites(), mirror, &self.held);
@@ -111,7 +106,6 @@ impl Notices {
         };
         self.unnamed = roles_unnamed(mirror, joining(mirror.shared(), &self.held));
         self.states = states_of(mirror);
-        self.ungiven = ungiven_by(command, mirror);
         self.listed = members_listing(mirror);
     }
 
@@ -150,34 +144,19 @@ impl Notices {
             Overwritten::Images => one_needs_telling(&self.each),
             Overwritten::NewDevice => self.held.needs_telling(),
             Overwritten::ReturningDevice => self.own || self.held.is_unseen(),
-            Overwritten::Member(member) => self.asks_of_member(member as usize),
+            Overwritten::Member(member) => self.is_parted_spare(member as usize),
             Overwritten::Nothing => false,
         }
     }
 
-    // Whether it is asked of a member that is to be rebuilt.
-    fn asks_of_member(&self, k: usize) -> bool
-        ensures { result ≡ asks_before (overwritten.Member k) self.now }
-    {
-        self.is_parted_spare(k) || self.ungiven.first.is_some()
-    }
-
     // Whether a member was used without those in sync, and may be rebuilt.
     fn is_parted_spare(&self, k: usize) -> bool
-        ensures { result ≡ (was_parted self.now k
-            && was_spare (unwrap_or (slice_get self.now.states k) None)) }
+        ensures { result ≡ asks_before (overwritten.Member k) self.now }
     {
-        if !self.was_parted(k) {
+        if !self.parted.get(k).copied().unwrap_or(false) {
             return false;
         }
         was_spare(self.states.get(k).copied().unwrap_or(None))
-    }
-
-    /// Whether a member was used without those in sync.
-    pub(crate) fn was_parted(&self, k: usize) -> bool
-        ensures { result ≡ was_parted self.now k }
-    {
-        self.parted.get(k).copied().unwrap_or(false)
     }
 }
 
@@ -189,20 +168,6 @@ fn parted_members<D: Device + Drop>(command: Command<'_>, mirror: &Mirror<D>) ->
         return [false; MAX_MEMBERS];
     }
     members_parted(mirror)
-}
-
-// The chunks that a rebuild would list whole, which loses chunks for a bad sector.
-fn ungiven_by<D: Device + Drop>(command: Command<'_>, mirror: &Mirror<D>) -> UngivenChunks
-    requires { IsConsistent mirror.now }
-    ensures { result ≡ ungiven_by (overwritten_by (ask_of command.entry)) (loss_of (ask_of command.entry))
-        mirror.now.array }
-{
-    match (command.overwrites(), command.loss()) {
-        (Overwritten::Member(member), Some(Loss::Chunks)) => {
-            chunks_ungiven(mirror, member as usize)
-        }
-        _ => UngivenChunks::none(),
-    }
 }
 
 // Whether the device that is to join is one of the array: in sync there, where it is to be added, and used without the

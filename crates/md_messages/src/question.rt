@@ -2,18 +2,18 @@
 ghost use Rattle.std.specs.Prelude.{◌≡◌, IfOk};
 ghost use Rattle.md_words.specs.Asks.{ask_of};
 ghost use Rattle.md_messages.specs.Question.{question};
-ghost use Rattle.md_messages.specs.Telling.{asked_text, texts};
+ghost use Rattle.md_messages.specs.Telling.{first_text, texts};
 
 use crate::asker::Asker;
 use crate::notices::Notices;
-use crate::telling::put_asked;
+use crate::telling::put_first;
 use md_commands::CommandFault;
 use md_examine::{Output, SinkFault};
 use md_words::Command;
 use std::alloc::Global;
 
-/// Asks whether a command goes on, where it would overwrite what perhaps should stay, or list whole chunks as bad, by what
-/// was noticed: once, and the answer stands. The names are those of all images. Without memory for the lines that are asked with it does not go on.
+/// Asks whether a command goes on, where it would overwrite what perhaps should stay, by what was noticed: once, and the
+/// answer stands. The names are those of all images. Without memory for the lines that are asked with it does not go on.
 pub fn ask_first<A: Asker>(
     alloc: Global,
     asker: &mut A,
@@ -45,9 +45,9 @@ fn lines_first(
     names: &[&str],
 ) -> Result<Vec<u8>, SinkFault>
     ensures { IfOk result (λ lines.
-        lines.items ≡ asked_text (ask_of command.entry) (texts names.now) notices.now) }
+        lines.items ≡ first_text (ask_of command.entry) (texts names.now) notices.now) }
 {
     let mut out = Output::new(Vec::new(alloc));
-    put_asked(notices, command, names, &mut out)?;
+    put_first(notices, command, names, &mut out)?;
     Ok(out.into_inner())
 }

@@ -1,9 +1,9 @@
 // What standard error is told of what was noticed. No line takes memory.
 ghost use Rattle.std.specs.Prelude.{◌≡◌, ◌<◌, ◌++◌, [], option_map, slice_get, if◌then◌else◌};
 ghost use Rattle.md_examine.specs.Sink.{PutsOrFails};
-ghost use Rattle.md_notices.specs.Lines.{ungiven_text};
-ghost use Rattle.md_words.specs.Asks.{ask_of, loss_of, overwritten_by};
-ghost use Rattle.md_messages.specs.Telling.{asked_member, asked_text, chunks_lost_if, dropped_at, dropped_line, dropped_lines, each_lines, first_by, first_text, first_unless, has_joined, held_line, held_line_of, is_at, listed_text_at, listed_line, listed_lines, member_name, line_of, lists_more, loses_chunks, loss_lines, lost_lines, marked_at, marked_lines, name_in, new_line, noticed_text, parted_at, parted_line, parted_lines, rebuilt_lists_more, rebuilt_place, refused_text, returning_line, target_line, texts, told_text, uncompared_lines, unnamed_at, unnamed_lines};
+ghost use Rattle.md_notices.specs.Lines.{chunks_lost_text, ungiven_text};
+ghost use Rattle.md_words.specs.Asks.{ask_of, overwritten_by};
+ghost use Rattle.md_messages.specs.Telling.{asked_member, dropped_at, dropped_line, dropped_lines, each_lines, first_by, first_text, first_unless, has_joined, held_line, held_line_of, is_at, listed_text_at, listed_line, listed_lines, member_name, line_of, lists_more, loss_lines, lost_lines, marked_at, marked_lines, name_in, new_line, noticed_text, parted_at, parted_line, parted_lines, refused_text, returning_line, texts, told_text, uncompared_lines, unnamed_at, unnamed_lines};
 ghost use Rattle.md_messages.specs.Holding.{held_each};
 ghost use Rattle.md_messages.specs.Noticed.{asks_first};
 
@@ -14,9 +14,9 @@ use md_commands::CommandFault;
 use md_examine::{Sink, SinkFault};
 use md_images::is_missing;
 use md_notices::{
-    Held, MAX_MEMBERS, MAX_ROLES, chunks_lost_line, chunks_ungiven_line, dropped_line,
-    forgotten_line, held_line, listed_line, lost_line, marked_line, parted_line, standing_line,
-    uncompared_line, ungiven_line, unnamed_line, unread_line, unseen_line,
+    Held, MAX_MEMBERS, MAX_ROLES, chunks_lost_line, dropped_line, forgotten_line, held_line,
+    listed_line, lost_line, marked_line, parted_line, standing_line, uncompared_line, ungiven_line,
+    unnamed_line, unread_line, unseen_line,
 };
 use md_words::{ArrayCommand, Command, Loss, Overwritten};
 
@@ -212,25 +212,13 @@ fn put_listed_of<S: Sink>(
     out: &mut S,
     name: &str,
     was: Option<MemberState>,
-    by_chunks: bool,
     count: Option<u64>,
 ) -> Result<(), SinkFault>
-    ensures { PutsOrFails S.contents S.failed out.old out.new
-        (listed_line was by_chunks count name.now) result }
+    ensures { PutsOrFails S.contents S.failed out.old out.new (listed_line was count name.now) result }
 {
     match count {
-        Some(count) => listed_line(out, name, was, by_chunks, count),
+        Some(count) => listed_line(out, name, was, count),
         None => out.put(b""),
-    }
-}
-
-// Whether whole chunks are listed for a bad sector.
-fn loses_chunks(command: Command<'_>) -> bool
-    ensures { result ≡ loses_chunks (loss_of (ask_of command.entry)) }
-{
-    match command.loss() {
-        Some(Loss::Chunks) => true,
-        Some(Loss::Sectors) | None => false,
     }
 }
 
@@ -246,16 +234,7 @@ fn put_listed<S: Sink>(
         (listed_text_at (ask_of command.entry) notices.now (texts names.now) k) result }
 {
     match member_name(command, names, k) {
-        Some(name) => {
-            let by_chunks = loses_chunks(command);
-            put_listed_of(
-                out,
-                name,
-                notices.states[k],
-                by_chunks,
-                notices.more_listed[k],
-            )
-        }
+        Some(name) => put_listed_of(out, name, notices.states[k], notices.more_listed[k]),
         None => out.put(b""),
     }
 }
@@ -283,64 +262,24 @@ fn lists_more(notices: &Notices) -> bool
     notices.more_listed.iter().any(|count| count.is_some())
 }
 
-// The place of the member that is rebuilt.
-fn rebuilt_place(command: Command<'_>, names: &[&str]) -> usize
-    ensures { result ≡ rebuilt_place (ask_of command.entry) (texts names.now) }
-{
-    match command.member() {
-        Some(member) => member as usize,
-        None => names.len(),
-    }
-}
-
-// Whether the member that is rebuilt lists more sectors as bad than before: others may where it got all of the data.
-fn rebuilt_lists_more(notices: &Notices, command: Command<'_>, names: &[&str]) -> bool
-    ensures { result ≡ rebuilt_lists_more (ask_of command.entry) (texts names.now) notices.now }
-{
-    let place = rebuilt_place(command, names);
-    notices
-        .more_listed
-        .get(place)
-        .copied()
-        .unwrap_or(None)
-        .is_some()
-}
-
-fn put_chunks_lost_if<S: Sink>(out: &mut S, listed: bool) -> Result<(), SinkFault>
-    ensures { PutsOrFails S.contents S.failed out.old out.new (chunks_lost_if listed) result }
-{
-    if listed {
-        chunks_lost_line(out)
-    } else {
-        out.put(b"")
-    }
-}
-
-fn put_chunks_lost<S: Sink>(out: &mut S, notices: &Notices, listed: bool) -> Result<(), SinkFault>
+fn put_chunks_lost<S: Sink>(out: &mut S, notices: &Notices) -> Result<(), SinkFault>
     ensures { PutsOrFails S.contents S.failed out.old out.new
-        (ungiven_text notices.now.lost ++ chunks_lost_if listed) result }
+        (ungiven_text notices.now.lost ++ chunks_lost_text) result }
 {
     ungiven_line(out, notices.lost)?;
-    put_chunks_lost_if(out, listed)?;
+    chunks_lost_line(out)?;
     Ok(())
 }
 
-// Of a rebuild which sectors no member in sync gives. Of one that loses chunks only where some member lists more, and that chunks were
-// not to be lost only where that is the member that is rebuilt.
-fn put_loss<S: Sink>(
-    out: &mut S,
-    command: Command<'_>,
-    notices: &Notices,
-    names: &[&str],
-) -> Result<(), SinkFault>
+// Of a rebuild which sectors no member in sync gives. Of one that loses chunks only where some member lists more, and then that chunks
+// need not be lost.
+fn put_loss<S: Sink>(out: &mut S, command: Command<'_>, notices: &Notices) -> Result<(), SinkFault>
     ensures { PutsOrFails S.contents S.failed out.old out.new
-        (loss_lines (ask_of command.entry) (texts names.now) notices.now) result }
+        (loss_lines (ask_of command.entry) notices.now) result }
 {
     match command.loss() {
         Some(Loss::Sectors) => ungiven_line(out, notices.lost),
-        Some(Loss::Chunks) if lists_more(notices) => {
-            put_chunks_lost(out, notices, rebuilt_lists_more(notices, command, names))
-        }
+        Some(Loss::Chunks) if lists_more(notices) => put_chunks_lost(out, notices),
         Some(Loss::Chunks) | None => out.put(b""),
     }
 }
@@ -428,23 +367,6 @@ fn put_new<S: Sink>(out: &mut S, notices: &Notices, name: Option<&str>) -> Resul
     }
 }
 
-// Of the member that is to be rebuilt that it was used without those in sync.
-fn put_rebuilt<S: Sink>(
-    out: &mut S,
-    notices: &Notices,
-    names: &[&str],
-    k: usize,
-) -> Result<(), SinkFault>
-    ensures { PutsOrFails S.contents S.failed out.old out.new
-        (target_line notices.now (texts names.now) k) result }
-{
-    if notices.was_parted(k) {
-        put_parted_of(out, notices, names, name_at(names, k))
-    } else {
-        out.put(b"")
-    }
-}
-
 // What is said of what a command would overwrite.
 #[tactic(auto, unfolding(crate::specs::Telling::first_by))]
 fn put_overwritten<S: Sink>(
@@ -462,29 +384,15 @@ fn put_overwritten<S: Sink>(
         Overwritten::Images => put_all_held(out, notices, names),
         Overwritten::NewDevice => put_new(out, notices, device),
         Overwritten::ReturningDevice => put_returning(out, notices, names, device),
-        Overwritten::Member(member) => put_rebuilt(out, notices, names, member as usize),
+        Overwritten::Member(member) => {
+            put_parted_of(out, notices, names, name_at(names, member as usize))
+        }
     }
 }
 
-/// What is shown with the question whether a command goes on: what it is asked of, and which chunks would be listed whole. It
-/// fails only where the output has failed, as all here does.
-#[tactic(auto, unfolding(crate::specs::Telling::asked_text), using(md_examine::proofs::Puts::puts_then))]
-pub(crate) fn put_asked<S: Sink>(
-    notices: &Notices,
-    command: Command<'_>,
-    names: &[&str],
-    out: &mut S,
-) -> Result<(), SinkFault>
-    ensures { PutsOrFails S.contents S.failed out.old out.new
-        (asked_text (ask_of command.entry) (texts names.now) notices.now) result }
-{
-    put_first(notices, command, names, out)?;
-    chunks_ungiven_line(out, notices.ungiven)?;
-    Ok(())
-}
-
-// What is said before a command is done, where there is a terminal, and else after it: what it would overwrite.
-fn put_first<S: Sink>(
+/// What is said before a command is done, where there is a terminal: what it is asked of. It fails only where the output
+/// has failed, as all here does.
+pub(crate) fn put_first<S: Sink>(
     notices: &Notices,
     command: Command<'_>,
     names: &[&str],
@@ -591,7 +499,7 @@ pub fn put_told<S: Sink>(
 {
     put_noticed(out, notices, command, names, audience)?;
     put_all_listed(out, notices, command, names)?;
-    put_loss(out, command, notices, names)?;
+    put_loss(out, command, notices)?;
     put_uncompared(out, notices, command, names)?;
     put_lost(out, command, audience)?;
     Ok(())

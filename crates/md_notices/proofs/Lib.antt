@@ -6,5 +6,3 @@ pub mod SectorCounts
 pub mod SignatureLemmas
 -- What a device holds before `create` or `add` overwrites it, for the warning.
 pub mod HeldLemmas
--- The chunks that no member in sync gives whole, chunk by chunk, member by member and run by run.
-pub mod UngivenLists

@@ -18,7 +18,3 @@ pub mod Held
 pub mod ListedSectors
 -- Sectors of an array that no member in sync gives, by their lists.
 pub mod LostSectors
--- Chunks that a member lacks and that no member in sync gives whole, by their lists.
-pub mod UngivenChunks
--- The line on chunks that no member in sync gives whole.
-pub mod UngivenLine

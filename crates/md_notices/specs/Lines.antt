@@ -1,5 +1,5 @@
 -- The lines that say what was noticed: forms of this project's own. Names stand in them as they are shown.
-use Rattle.std.specs.Prelude.{ℕ, Bool, true, false, List, [], ◌++◌, Option, Some, None, codes, decimal}
+use Rattle.std.specs.Prelude.{ℕ, List, [], ◌++◌, Option, Some, None, codes, decimal}
 use Rattle.uuid.specs.Text.{hyphenated_text, lower}
 use Rattle.md_examine.specs.ShownNames.Shown.{shown}
 use Rattle.md_super.specs.declared.superblock.Superblock.{Superblock}
@@ -21,20 +21,14 @@ dropped_text name in_sync raid_disks =
 
 -- Of a member that was in sync, of one that gets what it lacks, and of one that joined: what this lists may be what it listed before.
 abbrev pub why_listed : Option MemberState → List ℕ
-why_listed (Some (InSync role)) = codes ": could not be read in places: "
-why_listed (Some state) = codes ": no member gave all of it: "
-why_listed None = codes ": "
+why_listed (Some (InSync role)) =
+    codes ": could not be read in places: the sectors that are listed as bad in it are now "
+why_listed (Some state) =
+    codes ": no member gave all of it: the sectors that are listed as bad in it are now "
+why_listed None = codes ": the sectors that are listed as bad in it are now "
 
--- Which sectors are counted: where whole chunks are listed, good ones are among them.
-abbrev pub which_sectors : Bool → List ℕ
-which_sectors true =
-    codes "the sectors that are listed as bad in it, also good ones of the same chunks, are now "
-which_sectors false = codes "the sectors that are listed as bad in it are now "
-
-unfoldable pub listed_text : List ℕ → Option MemberState → Bool → ℕ → List ℕ
-listed_text name was by_chunks count =
-    codes "mdcli: " ++ shown name ++ why_listed was ++ (which_sectors by_chunks ++ decimal count)
-    ++ codes "\n"
+unfoldable pub listed_text : List ℕ → Option MemberState → ℕ → List ℕ
+listed_text name was count = codes "mdcli: " ++ shown name ++ (why_listed was ++ decimal count) ++ codes "\n"
 
 -- of so many sectors, and the first of them
 unfoldable pub ungiven_count_text : ℕ → List ℕ
@@ -55,10 +49,9 @@ ungiven_if_some count (Some first) = ungiven_sectors_text count first
 abbrev pub ungiven_text : Lost → List ℕ
 ungiven_text lost = ungiven_if_some lost.count lost.first
 
-unfoldable pub chunks_lost_text : List ℕ
+abbrev pub chunks_lost_text : List ℕ
 chunks_lost_text =
-    codes "mdcli: `rebuild --salvage` would have listed only the sectors that no member gave, "
-    ++ codes "and not their whole chunks, as long as the logs had room\n"
+    codes "mdcli: of a chunk with bad sectors all are listed; `rebuild --salvage` lists the bad sectors alone\n"
 
 unfoldable pub unnamed_text : ℕ → ℕ → List ℕ
 unnamed_text number role =

@@ -26,8 +26,6 @@ mod noticing;
 mod parting;
 mod signatures;
 mod standing_lines;
-mod ungiven_chunks;
-mod ungiven_chunks_line;
 mod unnamed;
 
 pub use belonging::{is_forgotten, standing};
@@ -46,6 +44,4 @@ pub use noticing::{
 pub use parting::{first_in_sync, is_parted, was_apart};
 pub use signatures::{Look, SIGNATURES, Signature, find_signatures};
 pub use standing_lines::standing_line;
-pub use ungiven_chunks::{UngivenChunks, chunks_ungiven};
-pub use ungiven_chunks_line::chunks_ungiven_line;
 pub use unnamed::unnamed_in;

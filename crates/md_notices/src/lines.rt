@@ -1,7 +1,7 @@
 // The lines that say what was noticed.
 ghost use Rattle.std.specs.Prelude.{◌≡◌};
 ghost use Rattle.md_examine.specs.Sink.{PutsOrFails};
-ghost use Rattle.md_notices.specs.Lines.{chunks_lost_text, dropped_text, first_ungiven_text, forgotten_text, held_text, listed_text, lost_text, marked_line_text, parted_text, uncompared_text, ungiven_count_text, ungiven_sectors_text, ungiven_text, unnamed_text, unread_text, unseen_text, which_sectors, why_listed};
+ghost use Rattle.md_notices.specs.Lines.{chunks_lost_text, dropped_text, first_ungiven_text, forgotten_text, held_text, listed_text, lost_text, marked_line_text, parted_text, uncompared_text, ungiven_count_text, ungiven_sectors_text, ungiven_text, unnamed_text, unread_text, unseen_text, why_listed};
 
 use crate::lost_sectors::Lost;
 use md_assembly::MemberState;
@@ -48,41 +48,28 @@ fn why_listed(was: Option<MemberState>) -> &'static [u8]
     ensures { result.now ≡ why_listed was }
 {
     match was {
-        Some(MemberState::InSync(_)) => b": could not be read in places: ",
-        Some(_) => b": no member gave all of it: ",
-        None => b": ",
-    }
-}
-
-// Which of its sectors are counted.
-fn which_sectors(by_chunks: bool) -> &'static [u8]
-    ensures { result.now ≡ which_sectors by_chunks }
-{
-    if by_chunks {
-        b"the sectors that are listed as bad in it, also good ones of the same chunks, are now "
-    } else {
-        b"the sectors that are listed as bad in it are now "
+        Some(MemberState::InSync(_)) => {
+            b": could not be read in places: the sectors that are listed as bad in it are now "
+        }
+        Some(_) => b": no member gave all of it: the sectors that are listed as bad in it are now ",
+        None => b": the sectors that are listed as bad in it are now ",
     }
 }
 
 /// Says that a member lists more sectors as bad than before, and how many it lists now: one that was in sync, as reads of
-/// it failed, and one that gets what it lacks, as no member gave it. `was` is its state before, if it was there, and
-/// `by_chunks` says whether whole chunks were listed, which have good sectors too.
+/// it failed, and one that gets what it lacks, as no member gave it. `was` is its state before, if it was there.
 #[tactic(auto, unfolding(crate::specs::Lines::listed_text), using(md_examine::proofs::Puts::puts_then))]
 pub fn listed_line<S: Sink>(
     out: &mut S,
     name: &str,
     was: Option<MemberState>,
-    by_chunks: bool,
     count: u64,
 ) -> Result<(), SinkFault>
-    ensures { PutsOrFails S.contents S.failed out.old out.new
-        (listed_text name.now was by_chunks count) result }
+    ensures { PutsOrFails S.contents S.failed out.old out.new (listed_text name.now was count) result }
 {
     out.put(b"mdcli: ")?;
     put_name(out, name)?;
-    out.put(why_listed(was))?;
-    number_after(out, which_sectors(by_chunks), count)?;
+    number_after(out, why_listed(was), count)?;
     out.put(b"\n")?;
     Ok(())
 }
@@ -122,15 +109,13 @@ fn first_ungiven<S: Sink>(out: &mut S, first: u64) -> Result<(), SinkFault>
     Ok(())
 }
 
-/// Says what a rebuild would have cost that loses no chunk for its bad sectors.
+/// Says that a rebuild which lost chunks for their bad sectors need not.
 pub fn chunks_lost_line<S: Sink>(out: &mut S) -> Result<(), SinkFault>
     ensures { PutsOrFails S.contents S.failed out.old out.new chunks_lost_text result }
 {
     out.put(
-        b"mdcli: `rebuild --salvage` would have listed only the sectors that no member gave, ",
-    )?;
-    out.put(b"and not their whole chunks, as long as the logs had room\n")?;
-    Ok(())
+        b"mdcli: of a chunk with bad sectors all are listed; `rebuild --salvage` lists the bad sectors alone\n",
+    )
 }
 
 /// Says that a device of the array is not among the images.

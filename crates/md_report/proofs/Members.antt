@@ -11,7 +11,7 @@ use Rattle.md_kept_members.specs.OwnFields.{is_write_mostly}
 use Rattle.md_kept_members.specs.View.{MemberView}
 use Rattle.md_state.specs.Missing.{is_re_added}
 use Rattle.md_state.specs.View.{ArrayView}
-use Rattle.md_report.specs.AsText.WholeArray.DetailReport.{member_lines, member_text}
+use Rattle.md_report.specs.DetailReport.{member_lines, member_text}
 
 -- how many of the first k members are in sync
 abbrev pub in_sync_first : List MemberView → ℕ → ℕ

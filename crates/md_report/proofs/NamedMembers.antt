@@ -10,8 +10,8 @@ use Rattle.md_kept_members.specs.OwnFields.{is_write_mostly}
 use Rattle.md_kept_members.specs.View.{MemberView}
 use Rattle.md_state.specs.Missing.{is_re_added}
 use Rattle.md_state.specs.View.{ArrayView}
-use Rattle.md_report.specs.AsJson.WholeArray.MemberObjects.{texts_of}
-use Rattle.md_report.specs.AsText.WholeArray.VerboseReport.{image_name, named_lines, named_text}
+use Rattle.md_report.specs.AsJson.MemberObjects.{texts_of}
+use Rattle.md_report.specs.VerboseReport.{image_name, named_lines, named_text}
 
 -- the line of one more member, whose index is n
 pub named_more : (a : ArrayView) (images : List (List ℕ)) (index : ℕ) (ms : List MemberView) (k n : ℕ) (v : Superblock) (state : MemberState) (re_added mostly : Bool) → n ≡ index + k → k < length ms → option_map (λ m. m.superblock) (slice_get ms k) ≡ Some v → option_map (λ m. m.state) (slice_get ms k) ≡ Some state → ((m : MemberView) → slice_get ms k ≡ Some m → re_added ≡ is_re_added a m) → mostly ≡ is_write_mostly v → named_lines a images index (take k ms) ++ named_text images n v.dev_number state re_added mostly ≡ named_lines a images index (take (k + 1) ms)

@@ -15,7 +15,7 @@ use Rattle.md_state.specs.View.{ArrayView}
 use Rattle.md_report.specs.declared.recovery.Recovery.{Recovery}
 use Rattle.md_report.specs.Recovery.{lacked_to, marked_to, offset_said, recoveries, recovery_if, recovery_line, recovery_of, those}
 use Rattle.md_report.specs.AsJson.Objects.{elements_text}
-use Rattle.md_report.specs.AsJson.WholeArray.RecoveringList.{element_if, recovery_object}
+use Rattle.md_report.specs.AsJson.RecoveringList.{element_if, recovery_object}
 use Rattle.md_report.proofs.JsonLemmas.Elements.{element_more}
 use Rattle.md_report.proofs.JsonLemmas.Texts.{is_later, later_next}
 

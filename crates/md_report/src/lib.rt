@@ -4,8 +4,7 @@
 //! Start with `summary` and `detail`, which are given an opened mirror.
 //!
 //! `as_text/`: reports as text, line by line.
-//! `as_json/`: reports as JSON, and what one image holds too.
-//! Both have an opened array in `whole_array/`, and the plan of a rebuild and what it did in `rebuilds/`.
+//! `as_json/`: reports as JSON.
 //!
 //! ```
 //! summary(&mut out, &mirror)?;

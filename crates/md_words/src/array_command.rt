@@ -102,15 +102,7 @@ impl<'a> ArrayCommand<'a> {
             | ArrayCommand::Read { .. }
             | ArrayCommand::Serve { .. }
             | ArrayCommand::Check { .. } => Access::ChangeOrLook,
-            ArrayCommand::ServeWritable
-            | ArrayCommand::Write { .. }
-            | ArrayCommand::Resync
-            | ArrayCommand::Stop { .. }
-            | ArrayCommand::Fail { .. }
-            | ArrayCommand::Remove { .. }
-            | ArrayCommand::Add { .. }
-            | ArrayCommand::ReAdd { .. }
-            | ArrayCommand::Rebuild { .. } => Access::Change,
+            _ => Access::Change,
         }
     }
 
@@ -125,15 +117,7 @@ impl<'a> ArrayCommand<'a> {
             ArrayCommand::Read { readonly, .. } => readonly,
             ArrayCommand::Serve { .. } => true,
             ArrayCommand::Check { readonly, .. } => readonly,
-            ArrayCommand::ServeWritable
-            | ArrayCommand::Write { .. }
-            | ArrayCommand::Resync
-            | ArrayCommand::Stop { .. }
-            | ArrayCommand::Fail { .. }
-            | ArrayCommand::Remove { .. }
-            | ArrayCommand::Add { .. }
-            | ArrayCommand::ReAdd { .. }
-            | ArrayCommand::Rebuild { .. } => false,
+            _ => false,
         }
     }
 

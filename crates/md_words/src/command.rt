@@ -106,8 +106,7 @@ impl<'a> Command<'a> {
         }
     }
 
-    /// What it overwrites that perhaps should stay: it may be asked of that first. Each command has its arm, so that none is
-    /// added without one.
+    /// What it overwrites that perhaps should stay: it may be asked of that first.
     pub fn overwrites(self) -> Overwritten
         ensures { result ≡ overwritten_by (ask_of self.entry) }
     {
@@ -116,21 +115,7 @@ impl<'a> Command<'a> {
             Command::Array(ArrayCommand::Add { .. }) => Overwritten::NewDevice,
             Command::Array(ArrayCommand::ReAdd { .. }) => Overwritten::ReturningDevice,
             Command::Array(ArrayCommand::Rebuild { member, .. }) => Overwritten::Member(member),
-            Command::Image(_) | Command::Scan { .. } | Command::Grow { .. } => Overwritten::Nothing,
-            Command::Array(
-                ArrayCommand::Assemble { .. }
-                | ArrayCommand::Detail { .. }
-                | ArrayCommand::Plan { .. }
-                | ArrayCommand::Read { .. }
-                | ArrayCommand::Serve { .. }
-                | ArrayCommand::ServeWritable
-                | ArrayCommand::Check { .. }
-                | ArrayCommand::Write { .. }
-                | ArrayCommand::Resync
-                | ArrayCommand::Stop { .. }
-                | ArrayCommand::Fail { .. }
-                | ArrayCommand::Remove { .. },
-            ) => Overwritten::Nothing,
+            _ => Overwritten::Nothing,
         }
     }
 

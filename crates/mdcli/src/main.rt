@@ -23,10 +23,7 @@ mod random;
 mod standard_input;
 
 use crate::arguments::arguments;
-use crate::images::{
-    FileImages, Masked, masked_images, rebuilt_from, scan_all, scan_of_all, tell_refusal,
-    tell_unlisted,
-};
+use crate::images::{FileImages, Masked, masked_images, scan_all, scan_of_all, tell_refusal};
 use crate::outputs::{Ending, Opened, Outputs, if_resumed, is_output_ended, opened_of, output_of};
 use crate::person::Person;
 use crate::progress::Progress;
@@ -34,11 +31,10 @@ use crate::prompt::Prompt;
 use crate::random::bytes_if_needed;
 use crate::standard_input::bytes_left_if_taken;
 use clap::Error;
-use md_badblocks::BadSet;
 use md_cli::{Session, run};
 use md_commands::Input;
 use md_examine::{Buffered, Sink};
-use md_files::{Cleared, CodedJson, Line, MapText};
+use md_files::{Cleared, CodedJson, Line, MapText, MaskedImages};
 use md_messages::Messages;
 use md_outputs::{Names, identity_of, resumed_of};
 use md_read_commands::Gaps;
@@ -49,9 +45,7 @@ use std::io::{self, IsTerminal, Stderr, Stdin, Write};
 use std::process::ExitCode;
 use std::rt::Files;
 
-// The status of a command that is done, that of words that are not taken, and that of a command that is refused.
-const DONE: u8 = 0;
-
+// The status of words that are not taken, and that of a command that is refused.
 const WORDS_NOT_TAKEN: u8 = 2;
 
 const REFUSED: u8 = 1;
@@ -80,21 +74,10 @@ fn main(rt: HostRuntime) -> ExitCode {
     let mut err = standard_error(&setting, &parsed);
     // Output that goes elsewhere leaves the line of progress as it is.
     let standard = Cleared::new(io::writer(&rt), &progress, rt.stdout().is_terminal());
-    let Some(
-        Masked {
-            mut images,
-            texts,
-            lacking,
-        },
-    ) = masked_of(&setting, &parsed, &mut err)
-    else {
-        return ExitCode::from(REFUSED);
-    };
-    let begun = Begun::of_parsed(
-        &setting, &parsed, &texts, &lacking, standard, person, &mut err,
-    );
+    let begun = Begun::of_parsed(&setting, &parsed, standard, person, &mut err);
     let Some(
         Begun {
+            mut images,
             mut session,
             ending,
         },
@@ -102,14 +85,10 @@ fn main(rt: HostRuntime) -> ExitCode {
     else {
         return ExitCode::from(REFUSED);
     };
-    let rebuilt = rebuilt_from(rt.alloc(), &parsed);
     let status = match scan_of_all(&parsed) {
         Some(json) => scan_devices(&setting, json, &mut session.out, &mut err),
         None => run(&mut session, words, parsed, &mut images, &mut err, messages),
     };
-    if let (Some(names), DONE) = (rebuilt, status) {
-        tell_unlisted(rt.alloc(), &names, &lacking, &mut images, &mut err);
-    }
     let is_done = is_ended(&setting, session, ending, &mut err);
     ExitCode::from(if is_done { status } else { REFUSED })
 }
@@ -156,35 +135,38 @@ type FileSession<'a, S> = Session<
     Prompt<'a>,
 >;
 
-// What a command is run with: where it puts out, and how its files are ended.
+// What a command is run with: its images, under the maps; where it puts out; and how its files are ended.
 #[derive(Drop)]
 struct Begun<'a, 'b, S: Sink + Drop> {
+    images: MaskedImages<FileImages<'b>>,
     session: FileSession<'b, S>,
     ending: Ending<'a>,
 }
 
 impl<'a, 'b, S: Sink + Drop> Begun<'a, 'b, S> {
-    // Opens or makes the files of a read of images under these maps, each of which lacks these sectors. Says on `err` why it
-    // can't.
+    // Lays the maps over the images, and opens or makes the files of a read. Says on `err` why it can't.
     fn of_parsed<E: Write + Sink>(
         setting: &Setting<'b>,
         parsed: &Result<Request<'a>, Error>,
-        texts: &[MapText],
-        lacking: &'b [BadSet],
         standard: S,
         person: Person,
         err: &mut E,
     ) -> Option<Begun<'a, 'b, S>> {
         let (rt, messages) = (setting.rt, setting.messages);
-        let opened = opened_for(setting, parsed, texts, standard, err)?;
+        let Masked { images, texts } = masked_of(setting, parsed, err)?;
+        let opened = opened_for(setting, parsed, &texts, standard, err)?;
         let ending = Ending::begin(rt, parsed, messages, err);
         let Some(ending) = ending else {
             let (output, names) = (output_of(parsed), Names::of_parsed(parsed));
             let _ = is_output_ended(opened.outputs, output, names, messages, err);
             return None;
         };
-        let session = session_over(setting, parsed, lacking, opened, person);
-        Some(Begun { session, ending })
+        let session = session_over(setting, parsed, opened, person);
+        Some(Begun {
+            images,
+            session,
+            ending,
+        })
     }
 }
 
@@ -246,7 +228,6 @@ fn opened_for<'b, F, S: Sink + Drop, E: Write + Sink>(
 fn session_over<'b, S: Sink + Drop, F>(
     setting: &Setting<'b>,
     parsed: &Result<Request<'_>, F>,
-    lacking: &'b [BadSet],
     opened: Opened<'b, S>,
     person: Person,
 ) -> FileSession<'b, S> {
@@ -270,7 +251,6 @@ fn session_over<'b, S: Sink + Drop, F>(
         is_all_out: false,
         stands,
         mismatched: None,
-        lacking,
     }
 }
 

@@ -24,14 +24,14 @@ use Rattle.md_model.proofs.Puts.{put-self}
 use Rattle.md_model.proofs.Steps.Between.{between_step, in_flight_step}
 use Rattle.md_inflight.specs.Requests.Pending.{PendingView}
 use Rattle.md_state.specs.Members.{IsMember}
-use Rattle.md_state.specs.Steps.NoteBad.{ListsMore, NotesMore}
+use Rattle.md_state.specs.Steps.NoteBad.{NotesMore}
 use Rattle.md_state.specs.Trying.{Refuses}
 use Rattle.md_state.specs.Requests.{IsPending}
 use Rattle.md_state.specs.View.{ArrayView, Disk, MirrorView, geometry_of}
 use Rattle.md_state.specs.DiskWrites.{IsTried}
 use Rattle.md_array.specs.Consistency.{HasSuper, IsConsistent}
 use Rattle.md_array.specs.Events.{Happens}
-use Rattle.md_array.specs.Steps.NoteBad.{AreBelowListLimit, AreSectorsOf, NoteSectorsHappens, NotesSectors, RegardHappens, RegardsSectors, within}
+use Rattle.md_array.specs.Steps.NoteBad.{AreBelowListLimit, AreSectorsOf, NoteSectorsHappens, NotesSectors, within}
 use Rattle.md_array.specs.ReadAsKept.{AreReadAsKept, IsReadAsKept}
 use Rattle.md_array.specs.Worlds.{AreHonest, lies_in, lists_of, stored_of, world_of}
 use Rattle.md_array.proofs.General.Replaced.{of_set}
@@ -55,25 +55,22 @@ or_second : (a b : Bool) → b ≡ true → (a || b) ≡ true
 or_second true b is = refl
 or_second false b is = is
 
-abbrev grown_of : {k : ℕ} {more : ℕ → Bool} {a b : ArrayView} → NotesMore k more a b → ListsMore k more a b
-grown_of n = record { member = n.may.member; at = n.may.at; list = n.list; list_is = n.may.list_is; array = n.array }
-
-module _ (k : ℕ) (more : ℕ → Bool) (old new : MirrorView) (c : IsConsistent old) (disks : new.disks ≡ old.disks) (l : ListsMore k more old.array new.array) (in_sync : is_in_sync l.member.state ≡ true) where
+module _ (k : ℕ) (more : ℕ → Bool) (old new : MirrorView) (c : IsConsistent old) (r : NotesSectors k more old new) (in_sync : is_in_sync r.notes.may.member.state ≡ true) where
   abbrev a : ArrayView
   a = old.array
 
   abbrev m : MemberView
-  m = l.member
+  m = r.notes.may.member
 
   abbrev list : List Run
-  list = l.list
+  list = r.notes.list
 
   abbrev n : MemberView
   n = record m { bad = list }
 
   changes : ChangesOwn k m n nothing old new
   changes = record {
-    at = l.at;
+    at = r.notes.may.at;
     near = record {
       places = record {
         number = refl;
@@ -86,17 +83,17 @@ module _ (k : ℕ) (more : ℕ → Bool) (old new : MirrorView) (c : IsConsisten
       };
       state = refl;
     };
-    disks = subst (λ (xs : List Disk). IsTried k nothing old.disks xs) (sym disks) (untried k old.disks);
-    array = l.array;
+    disks = subst (λ (xs : List Disk). IsTried k nothing old.disks xs) (sym r.disks) (untried k old.disks);
+    array = r.notes.array;
   }
 
   -- the list has what it had
   still_bad : (sector : ℕ) → IsBad m.bad sector → IsBad list sector
-  still_bad sector bad = (l.list_is.bad sector).1 (inl bad)
+  still_bad sector bad = (r.notes.may.list_is.bad sector).1 (inl bad)
 
   has_super : (d e : Disk) → slice_get old.disks k ≡ Some d → slice_get new.disks k ≡ Some e → HasSuper m d → HasSuper n e
   has_super d e was is had =
-      let same : d ≡ e = same_Some d e (sym was ∙ ap (λ (xs : List Disk). slice_get xs k) (sym disks) ∙ is) in
+      let same : d ≡ e = same_Some d e (sym was ∙ ap (λ (xs : List Disk). slice_get xs k) (sym r.disks) ∙ is) in
       subst (HasSuper n) same (record {
         super = had.super;
         is = had.is;
@@ -107,24 +104,24 @@ module _ (k : ℕ) (more : ℕ → Bool) (old new : MirrorView) (c : IsConsisten
         known = λ sector on. still_bad sector (had.known sector on);
       })
 
-  pub regarded_is_consistent : IsConsistent new
-  regarded_is_consistent = own_is_consistent k m n nothing old new changes c (λ d e was is _ _ had. has_super d e was is had)
+  pub noted_is_consistent : IsConsistent new
+  noted_is_consistent = own_is_consistent k m n nothing old new changes c (λ d e was is _ _ had. has_super d e was is had)
 
-  pub regarded_is_pending : (p : PendingView) → IsPending old.array p → IsPending new.array p
-  regarded_is_pending = own_is_pending k m n nothing old new changes
+  pub noted_is_pending : (p : PendingView) → IsPending old.array p → IsPending new.array p
+  noted_is_pending = own_is_pending k m n nothing old new changes
 
-  regarded_read : (failed_at : ℕ) (spoiled : ℕ → Bool) → AreReadAsKept old failed_at spoiled → AreReadAsKept new failed_at spoiled
-  regarded_read failed_at spoiled are j e x found member =
-      let there : slice_get old.disks j ≡ Some e = ap (λ (xs : List Disk). slice_get xs j) (sym disks) ∙ found in
-      subst (λ (v : ArrayView). IsReadAsKept v x failed_at (spoiled j) e.content) (sym l.array)
-      (of_set a.members k j n x (ap (λ (v : ArrayView). slice_get v.members j) (sym l.array) ∙ member)
+  noted_read : (failed_at : ℕ) (spoiled : ℕ → Bool) → AreReadAsKept old failed_at spoiled → AreReadAsKept new failed_at spoiled
+  noted_read failed_at spoiled are j e x found member =
+      let there : slice_get old.disks j ≡ Some e = ap (λ (xs : List Disk). slice_get xs j) (sym r.disks) ∙ found in
+      subst (λ (v : ArrayView). IsReadAsKept v x failed_at (spoiled j) e.content) (sym r.notes.array)
+      (of_set a.members k j n x (ap (λ (v : ArrayView). slice_get v.members j) (sym r.notes.array) ∙ member)
       (λ here x_is.
-      let had = are j e m there (ap (slice_get a.members) here ∙ l.at) in
+      let had = are j e m there (ap (slice_get a.members) here ∙ r.notes.may.at) in
       subst (λ (z : MemberView). IsReadAsKept (record a { members = set a.members k n }) z failed_at (spoiled j) e.content) (sym x_is) (record { super = had.super; header = had.header }))
       (λ apart is. let had = are j e x there is in record { super = had.super; header = had.header }))
 
   -- ---- the event, of which what it says past the end of the array is no matter
-  module _ (running : a.halted ≡ false) (resynced : a.resynced ≡ true) (below : AreBelowListLimit k more old) (said : ℕ → Bool) (same : (s : ℕ) → s < a.chunks.size → said s ≡ more s) (requests : ℕ → Option Request) where
+  module _ (resynced : a.resynced ≡ true) (below : AreBelowListLimit k more old) (said : ℕ → Bool) (same : (s : ℕ) → s < a.chunks.size → said s ≡ more s) (requests : ℕ → Option Request) where
     abbrev w : World
     w = world_of old requests
 
@@ -139,9 +136,9 @@ module _ (k : ℕ) (more : ℕ → Bool) (old new : MirrorView) (c : IsConsisten
             | inl was ↦ still_bad (at s) (bad_from_test m.bad (at s) was)
             | inr here ↦
                 let is : more s ≡ true = sym (same s low) ∙ here in
-                (l.list_is.bad (at s)).1 (inr (record { at = s; in_set = is; is = refl }, below m l.at s is))
+                (r.notes.may.list_is.bad (at s)).1 (inr (record { at = s; in_set = is; is = refl }, below m r.notes.may.at s is))
           ]),
-          (λ bad. elim ((l.list_is.bad (at s)).0 bad) [
+          (λ bad. elim ((r.notes.may.list_is.bad (at s)).0 bad) [
             | inl was ↦ or_first (lies_in m.bad (at s)) (said s) (test_from_bad m.bad (at s) was)
             | inr of ↦
                 let its : of.0.at ≡ s = let e = of.0.is in omega arith in
@@ -156,59 +153,48 @@ module _ (k : ℕ) (more : ℕ → Bool) (old new : MirrorView) (c : IsConsisten
     lists : (s : ℕ) → lists_of a n s ≡ (w.bad k s || (nat_lt s a.chunks.size && said s))
     lists s =
         either (lies_in list (at s)) (lies_in m.bad (at s)) (said s) (nat_lt s a.chunks.size) (λ low. listed_then s (is_below s a.chunks.size low))
-        ∙ ap (λ b. b || (nat_lt s a.chunks.size && said s)) (sym (member_there a k m false (λ x. lists_of a x s) l.at))
+        ∙ ap (λ b. b || (nat_lt s a.chunks.size && said s)) (sym (member_there a k m false (λ x. lists_of a x s) r.notes.may.at))
 
     world_noted : world_of new requests ≡ model.noted_bad (geometry_of a) w k said
     world_noted =
-        let inside = slice_get_within a.members k m l.at in
+        let inside = slice_get_within a.members k m r.notes.may.at in
         let many = c.fits.as_many in
         let d = got_within old.disks k (omega arith) in
-        let there : slice_get new.disks k ≡ Some d.0 = ap (λ (xs : List Disk). slice_get xs k) disks ∙ d.1 in
+        let there : slice_get new.disks k ≡ Some d.0 = ap (λ (xs : List Disk). slice_get xs k) r.disks ∙ d.1 in
         let stored : put k (stored_of a n d.0.content) w.stored ≡ w.stored =
-        ap (λ (x : Stored). put k x w.stored) (sym (stored_there old.disks a k m d.0 l.at d.1)) ∙ put-self k w.stored in
-        let due : put k m.due w.due ≡ w.due = ap (λ b. put k b w.due) (sym (member_there a k m false (λ x. x.due) l.at)) ∙ put-self k w.due in
+        ap (λ (x : Stored). put k x w.stored) (sym (stored_there old.disks a k m d.0 r.notes.may.at d.1)) ∙ put-self k w.stored in
+        let due : put k m.due w.due ≡ w.due = ap (λ b. put k b w.due) (sym (member_there a k m false (λ x. x.due) r.notes.may.at)) ∙ put-self k w.due in
         let known : put k (λ s. nat_lt s a.marks.chunks && is_set m.stored.bytes s) w.known ≡ w.known =
-        ap (λ (f : ℕ → Bool). put k f w.known) (λ i s. sym (member_there a k m false (λ x. nat_lt s a.marks.chunks && is_set x.stored.bytes s) l.at) i) ∙ put-self k w.known in
-        let offset : put k m.offset w.offset ≡ w.offset = ap (λ o. put k o w.offset) (sym (member_there a k m 0 (λ x. x.offset) l.at)) ∙ put-self k w.offset in
+        ap (λ (f : ℕ → Bool). put k f w.known) (λ i s. sym (member_there a k m false (λ x. nat_lt s a.marks.chunks && is_set x.stored.bytes s) r.notes.may.at) i) ∙ put-self k w.known in
+        let offset : put k m.offset w.offset ≡ w.offset = ap (λ o. put k o w.offset) (sym (member_there a k m 0 (λ x. x.offset) r.notes.may.at)) ∙ put-self k w.offset in
         let sure : put k m.superblock.recovery_offset w.sure_offset ≡ w.sure_offset =
-        ap (λ o. put k o w.sure_offset) (sym (member_there a k m 0 (λ x. x.superblock.recovery_offset) l.at)) ∙ put-self k w.sure_offset in
+        ap (λ o. put k o w.sure_offset) (sym (member_there a k m 0 (λ x. x.superblock.recovery_offset) r.notes.may.at)) ∙ put-self k w.sure_offset in
         let told : put k m.stored_offset w.stored_offset ≡ w.stored_offset =
-        ap (λ o. put k o w.stored_offset) (sym (member_there a k m 0 (λ x. x.stored_offset) l.at)) ∙ put-self k w.stored_offset in
+        ap (λ o. put k o w.stored_offset) (sym (member_there a k m 0 (λ x. x.stored_offset) r.notes.may.at)) ∙ put-self k w.stored_offset in
         let recovering : put k (has_recovery_offset m.superblock) w.recovering ≡ w.recovering =
-        ap (λ b. put k b w.recovering) (sym (member_there a k m false (λ x. has_recovery_offset x.superblock) l.at)) ∙ put-self k w.recovering in
+        ap (λ b. put k b w.recovering) (sym (member_there a k m false (λ x. has_recovery_offset x.superblock) r.notes.may.at)) ∙ put-self k w.recovering in
         own_world k m n nothing old new changes d.0 there requests
         ∙ (λ i. record w { stored = stored i; due = due i; known = known i; bad = put k (λ s. lists s i) w.bad; offset = offset i; sure_offset = sure i; stored_offset = told i; recovering = recovering i })
 
     step : Step (geometry_of a) w (Event.NoteBad k said) (world_of new requests)
-    step = (running, (record { in_sync = in_sync_there old.disks a requests k m (record { member = l.at; in_sync = in_sync }); resynced = resynced }, world_noted))
+    step = (r.notes.may.running, (record { in_sync = in_sync_there old.disks a requests k m (record { member = r.notes.may.at; in_sync = in_sync }); resynced = resynced }, world_noted))
 
-  pub regard_happens : a.halted ≡ false → a.resynced ≡ true → AreBelowListLimit k more old → (said : ℕ → Bool) → ((s : ℕ) → s < a.chunks.size → said s ≡ more s) → Happens old (Event.NoteBad k said) new
-  regard_happens running resynced below said same honest requests in_flight =
+  pub note_happens : a.resynced ≡ true → AreBelowListLimit k more old → (said : ℕ → Bool) → ((s : ℕ) → s < a.chunks.size → said s ≡ more s) → Happens old (Event.NoteBad k said) new
+  note_happens resynced below said same honest requests in_flight =
       let event : Event = Event.NoteBad k said in
-      let happens = step running resynced below said same requests in
+      let happens = step resynced below said same requests in
       record {
-        honest = subst AreHonest (sym disks) honest;
-        writes = disks;
+        honest = subst AreHonest (sym r.disks) honest;
+        writes = r.disks;
         in_flight = own_in_flight k m n nothing old new changes requests in_flight;
-        geometry = ap geometry_of l.array;
+        geometry = ap geometry_of r.notes.array;
         step = happens;
         content = λ x y holds becomes. between_step (geometry_of a) (world_of old requests) event (world_of new requests) x y happens becomes holds;
         written = in_flight_step (geometry_of a) (world_of old requests) event (world_of new requests) happens;
-        sound = regarded_is_consistent;
+        sound = noted_is_consistent;
         lists = tt;
-        read = regarded_read;
+        read = noted_read;
       }
-
--- ---- where the log has room for them
-module _ (k : ℕ) (more : ℕ → Bool) (old new : MirrorView) (c : IsConsistent old) (r : NotesSectors k more old new) (in_sync : is_in_sync r.notes.may.member.state ≡ true) where
-  pub noted_is_consistent : IsConsistent new
-  noted_is_consistent = regarded_is_consistent k more old new c r.disks (grown_of r.notes) in_sync
-
-  pub noted_is_pending : (p : PendingView) → IsPending old.array p → IsPending new.array p
-  noted_is_pending = regarded_is_pending k more old new c r.disks (grown_of r.notes) in_sync
-
-  pub note_happens : old.array.resynced ≡ true → AreBelowListLimit k more old → (said : ℕ → Bool) → ((s : ℕ) → s < old.array.chunks.size → said s ≡ more s) → Happens old (Event.NoteBad k said) new
-  note_happens = regard_happens k more old new c r.disks (grown_of r.notes) in_sync r.notes.may.running
 
 -- ---- the sectors lie on its device
 below_limit : (offset s size held sectors limit : ℕ) → s < size → size ≤ held → offset + held ≤ sectors → sectors ≤ limit → offset + s < limit
@@ -282,26 +268,3 @@ module _ (k : ℕ) (more : ℕ → Bool) (old new : MirrorView) (c : IsConsisten
   note_event resynced below said same (Ok x) notes =
       note_happens k more old new c (record { disks = disks; notes = notes }) (in_sync notes.may.member notes.may.at) resynced below said same
   note_event resynced below said same (Err f) refuses = tt
-
--- ---- where it need not have room
-module _ (k : ℕ) (more : ℕ → Bool) (old new : MirrorView) (c : IsConsistent old) (disks : new.disks ≡ old.disks)
-    (in_sync : (m : MemberView) → IsMember old.array k m → is_in_sync m.state ≡ true) where
-  pub regard_gives : {T E : Type 0} (r : Result T E) → MatchResult r (λ _. ListsMore k more old.array new.array) (λ _. new.array ≡ old.array)
-      → MatchResult r (λ _. RegardsSectors k more old new) (λ _. new ≡ old)
-  regard_gives (Ok x) lists = record { disks = disks; lists = lists }
-  regard_gives (Err e) same = λ i. record { disks = disks i; array = same i }
-
-  pub regard_sound : {T E : Type 0} (r : Result T E) → MatchResult r (λ _. ListsMore k more old.array new.array) (λ _. new.array ≡ old.array) → IsConsistent new
-  regard_sound (Ok x) lists = regarded_is_consistent k more old new c disks lists (in_sync lists.member lists.at)
-  regard_sound (Err e) same = subst IsConsistent (λ i. record { disks = sym disks i; array = sym same i }) c
-
-  pub regard_pending : {T E : Type 0} (r : Result T E) → MatchResult r (λ _. ListsMore k more old.array new.array) (λ _. new.array ≡ old.array)
-      → (p : PendingView) → IsPending old.array p → IsPending new.array p
-  regard_pending (Ok x) lists p = regarded_is_pending k more old new c disks lists (in_sync lists.member lists.at) p
-  regard_pending (Err e) same p = subst (λ (a : ArrayView). IsPending a p) (sym same)
-
-  pub regard_event : (AreSectorsOf old more → AreBelowListLimit k more old) → {T E : Type 0} (r : Result T E)
-      → MatchResult r (λ _. ListsMore k more old.array new.array) (λ _. new.array ≡ old.array) → RegardHappens k more old new r
-  regard_event below (Ok x) lists running resynced within =
-      regard_happens k more old new c disks lists (in_sync lists.member lists.at) running resynced (below within) more (λ s _. refl)
-  regard_event below (Err e) same running resynced within = tt

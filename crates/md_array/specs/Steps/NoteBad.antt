@@ -1,5 +1,5 @@
 -- The list of a member in sync grows, in memory alone.
-use Rattle.std.specs.Prelude.{◌≡◌, ⊤, ◌+◌, ◌^◌, ◌<◌, ℕ, Bool, true, false, ◌&&◌, nat_lt, Result, MatchResult}
+use Rattle.std.specs.Prelude.{◌≡◌, ⊤, ◌+◌, ◌^◌, ◌<◌, ℕ, Bool, true, ◌&&◌, nat_lt, Result, MatchResult}
 use Rattle.md_model.specs.Events.{Event}
 use Rattle.md_model.specs.Listing.{of_chunk}
 use Rattle.md_badblocks.specs.Runs.{IsBad}
@@ -8,7 +8,7 @@ use Rattle.md_kept_members.specs.SectorLists.{in_chunk, in_runs}
 use Rattle.md_kept_members.specs.View.{MemberView}
 use Rattle.md_faults.specs.declared.note_fault.NoteFault.{NoteFault}
 use Rattle.md_state.specs.Members.{IsMember}
-use Rattle.md_state.specs.Steps.NoteBad.{ListsMore, NotesMore, WhyMoreUnlisted, WhyUnlisted}
+use Rattle.md_state.specs.Steps.NoteBad.{NotesMore, WhyMoreUnlisted, WhyUnlisted}
 use Rattle.md_state.specs.Trying.{Refuses}
 use Rattle.md_state.specs.View.{MirrorView, geometry_of}
 use Rattle.md_array.specs.Events.{Happens}
@@ -35,17 +35,6 @@ within v more s = nat_lt s v.array.chunks.size && more s
 
 abbrev pub NoteSectorsHappens : ℕ → (ℕ → Bool) → MirrorView → MirrorView → {T E : Type 0} → Result T E → Type 0
 NoteSectorsHappens k more old new result = MatchResult result (λ _. Happens old (Event.NoteBad k more) new) (λ _. ⊤)
-
--- ---- sectors that are known not to be on a device, as a map says of a copy
--- Nothing is stored, and the log needs no room for them.
-pub record RegardsSectors (k : ℕ) (more : ℕ → Bool) (old new : MirrorView) : Type 0 where
-  pub disks : new.disks ≡ old.disks
-  pub lists : ListsMore k more old.array new.array
-
--- It is the event of sectors that are noted, where these may be.
-abbrev pub RegardHappens : ℕ → (ℕ → Bool) → MirrorView → MirrorView → {T E : Type 0} → Result T E → Type 0
-RegardHappens k more old new result =
-    old.array.halted ≡ false → old.array.resynced ≡ true → AreSectorsOf old more → NoteSectorsHappens k more old new result
 
 -- ---- those of a chunk
 abbrev pub NotesChunk : ℕ → ℕ → MirrorView → MirrorView → Type 0

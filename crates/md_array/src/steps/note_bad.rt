@@ -7,14 +7,14 @@ ghost use Rattle.md_inflight.specs.Requests.Pending.{PendingView};
 ghost use Rattle.md_state.specs.Members.{IsMember};
 ghost use Rattle.md_state.specs.Requests.{IsPending};
 ghost use Rattle.md_array.specs.Consistency.{IsConsistent};
-ghost use Rattle.md_array.specs.Steps.NoteBad.{AreBelowListLimit, AreSectorsOf, IsBelowListLimit, NoteHappens, NoteSectorsHappens, NotesChunk, NotesSectors, RegardHappens, RegardsSectors, RefusesChunk, RefusesSectors};
+ghost use Rattle.md_array.specs.Steps.NoteBad.{AreBelowListLimit, AreSectorsOf, IsBelowListLimit, NoteHappens, NoteSectorsHappens, NotesChunk, NotesSectors, RefusesChunk, RefusesSectors};
 ghost use Rattle.md_kept_members.specs.SectorLists.{in_runs};
 
 use crate::mirror::Mirror;
 use md_badblocks::BadSet;
 use md_device::Device;
 use md_faults::NoteFault;
-use std::alloc::{AllocError, Global};
+use std::alloc::Global;
 
 impl<D: Device + Drop> Mirror<D> {
     /// Member k, which is in sync, lists the chunk as bad, in memory alone: `store_log` stores that. The
@@ -58,26 +58,5 @@ impl<D: Device + Drop> Mirror<D> {
     {
         let _sectors = self.devices[k].sectors();
         self.array.note_bad_sectors(alloc, k, sectors)
-    }
-
-    /// Member k, which is in sync, regards these sectors of the array as bad, in memory alone: they are known
-    /// not to be on its device, as a map says of a copy of a disk. Its log needs no room for them. Nothing is
-    /// changed where memory is refused.
-    pub fn regard_as_bad(
-        &mut self,
-        alloc: Global,
-        k: usize,
-        sectors: &BadSet,
-    ) -> Result<(), AllocError>
-        requires within { k < length self.old.array.members }
-        requires sound { IsConsistent self.old }
-        requires in_sync { (m : MemberView) → IsMember self.old.array k m → is_in_sync m.state ≡ true }
-        ensures gives { MatchResult result (λ _. RegardsSectors k (in_runs sectors.now) self.old self.new) (λ _. self.new ≡ self.old) }
-        ensures event { RegardHappens k (in_runs sectors.now) self.old self.new result }
-        ensures sound { IsConsistent self.new }
-        ensures pending { (p : PendingView) → IsPending self.old.array p → IsPending self.new.array p }
-    {
-        let _sectors = self.devices[k].sectors();
-        self.array.regard_as_bad(alloc, k, sectors)
     }
 }

@@ -46,11 +46,11 @@ use Rattle.md_laws.proofs.Openings.Reopened.{super_on}
 use Rattle.md_laws.proofs.Crashes.AtSteps.{new_has, none_new}
 use Rattle.md_metadata.specs.Storing.{IsNoFailure, IsStoring, Stores}
 use Rattle.md_copy.specs.Table.Sources.{missing_chunks}
-use Rattle.md_copy.specs.Passes.Listing.{ListsAll, WritesMetadata}
-use Rattle.md_copy.specs.Passes.Passing.{AreListedPasses, RecordsPass}
+use Rattle.md_copy.specs.Listing.{ListsAll, WritesMetadata}
+use Rattle.md_copy.specs.Passing.{AreListedPasses, RecordsPass}
 use Rattle.md_copy.specs.Rebuilding.{BeginsRebuild}
-use Rattle.md_copy.specs.Readying.Storing.{StoresFirst}
-use Rattle.md_copy.specs.Passes.Stretches.{AreRecorded, slots_after}
+use Rattle.md_copy.specs.Storing.{StoresFirst}
+use Rattle.md_copy.specs.Stretches.{AreRecorded, slots_after}
 use Rattle.md_copy.proofs.Held.HeldRecorded.{low_start, out_of_sync, target_same}
 use Rattle.md_copy.proofs.Listings.ListsOn.{IsSuperOf}
 use Rattle.md_copy.proofs.Passing.PassRecorded.{recorded_ready}

@@ -35,14 +35,14 @@ use Rattle.md_metadata.specs.Going.{GoesOn, only_others}
 use Rattle.md_metadata.specs.Storing.{IsStoring}
 use Rattle.md_copy.specs.Table.Beginning.{MayBeginRebuild}
 use Rattle.md_copy.specs.Table.Sources.{missing_chunks}
-use Rattle.md_copy.specs.Passes.Listing.{IsStoringList, NotesLists}
-use Rattle.md_copy.specs.Passes.Passing.{AreListedPasses, CopiesAll, ListsPass, RecordsPass}
-use Rattle.md_copy.specs.Readying.Admission.{AdmitsAfter, AdmitsFirst, FailsAdmission, Readies}
+use Rattle.md_copy.specs.Listing.{IsStoringList, NotesLists}
+use Rattle.md_copy.specs.Passing.{AreListedPasses, CopiesAll, ListsPass, RecordsPass}
+use Rattle.md_copy.specs.Readying.{AdmitsAfter, AdmitsFirst, FailsAdmission, Readies}
 use Rattle.md_copy.specs.RebuildEvents.{FailsAtMarks}
 use Rattle.md_copy.specs.Rebuilding.{EndsStoring}
 use Rattle.md_copy.proofs.Ready.Lowered.{lowered_but}
-use Rattle.md_copy.specs.Readying.Storing.{FailsToRecordTarget, StoresFirst}
-use Rattle.md_copy.specs.Passes.Stretches.{AreRecorded, MakesStretch, RecordsStretch, slots_after, slots_before}
+use Rattle.md_copy.specs.Storing.{FailsToRecordTarget, StoresFirst}
+use Rattle.md_copy.specs.Stretches.{AreRecorded, MakesStretch, RecordsStretch, slots_after, slots_before}
 use Rattle.md_copy.proofs.Held.HeldRecorded.{out_of_sync, target_same}
 use Rattle.md_copy.proofs.Fills.LentBack.{rebuilt_out}
 use Rattle.md_copy.proofs.Passing.PassesTold.{HoldsSoFar, chain_holds, holds_alone, listed_holds, one_holds, stretches_hold}

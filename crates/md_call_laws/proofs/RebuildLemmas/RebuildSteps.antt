@@ -22,13 +22,13 @@ use Rattle.md_laws.proofs.Runs.Moments.{run_then}
 use Rattle.md_metadata.specs.Going.{GoesOn, only_others}
 use Rattle.md_metadata.specs.Storing.{IsNoFailure, IsStoring}
 use Rattle.md_copy.specs.Table.Sources.{missing_chunks}
-use Rattle.md_copy.specs.Passes.Listing.{IsNoting, IsStoringList, NotesLists, StoresLists}
-use Rattle.md_copy.specs.Passes.Passing.{AreListedPasses, CopiesAll, ListsPass, RecordsPass}
-use Rattle.md_copy.specs.Readying.Admission.{AdmitsAfter, AdmitsFirst, LowersTarget, Readies}
+use Rattle.md_copy.specs.Listing.{IsNoting, IsStoringList, NotesLists, StoresLists}
+use Rattle.md_copy.specs.Passing.{AreListedPasses, CopiesAll, ListsPass, RecordsPass}
+use Rattle.md_copy.specs.Readying.{AdmitsAfter, AdmitsFirst, LowersTarget, Readies}
 use Rattle.md_copy.specs.Rebuilding.{BeginsRebuild}
 use Rattle.md_copy.specs.RebuildEvents.{IsBeforeEnrol}
-use Rattle.md_copy.specs.Readying.Storing.{StoresFirst}
-use Rattle.md_copy.specs.Passes.Stretches.{AreRecorded, RecordsStretch, slots_after, slots_before}
+use Rattle.md_copy.specs.Storing.{StoresFirst}
+use Rattle.md_copy.specs.Stretches.{AreRecorded, RecordsStretch, slots_after, slots_before}
 use Rattle.md_copy.proofs.Passing.PassesTold.{HoldsSoFar, chain_holds, holds_alone, listed_holds, one_holds}
 use Rattle.md_copy.proofs.Leads.RebuildLeads.{filled, listing_before, lowering_events, lowering_leads, noting_before, storing_before}
 use Rattle.md_call_laws.specs.Rebuilds.RebuildRuns.{StaysReadable}

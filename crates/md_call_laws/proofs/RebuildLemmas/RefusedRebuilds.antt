@@ -10,8 +10,8 @@ use Rattle.md_state.specs.View.{MirrorView}
 use Rattle.md_array.proofs.StepLemmas.Turns.{all_such}
 use Rattle.md_laws.specs.Runs.{Moment}
 use Rattle.md_copy.specs.Table.Sources.{missing_chunks}
-use Rattle.md_copy.specs.Passes.Listing.{IsStoringList, NotesLists}
-use Rattle.md_copy.specs.Passes.Passing.{AreListedPasses, CopiesAll, MakesPart, RecordsPass}
+use Rattle.md_copy.specs.Listing.{IsStoringList, NotesLists}
+use Rattle.md_copy.specs.Passing.{AreListedPasses, CopiesAll, MakesPart, RecordsPass}
 use Rattle.md_copy.specs.Rebuilding.{BeginsRebuild, LacksMemoryToRebuild, LacksRoom}
 use Rattle.md_copy.proofs.Passing.PassesTold.{HoldsSoFar, chain_holds, holds_alone, stretches_hold}
 use Rattle.md_copy.proofs.Passing.PassesTold as told

@@ -18,7 +18,7 @@ use Rattle.md_laws.specs.Left.{contents_of}
 use Rattle.md_laws.specs.ReadInTurn.{IsNoFailedRecord}
 use Rattle.md_laws.specs.Runs.{Moment}
 use Rattle.md_laws.specs.CrashesWithin.{MayAllBeLeft}
-use Rattle.md_copy.specs.Passes.Listing.{IsNoting}
+use Rattle.md_copy.specs.Listing.{IsNoting}
 use Rattle.md_copy.specs.Salvaging.Filling.{AreSalvaged, FillsChunk, SalvagesChunk}
 use Rattle.md_copy.specs.Salvaging.Losing.{NotesLost, every_role}
 use Rattle.md_copy.specs.Salvaging.Steps.{Salvages}

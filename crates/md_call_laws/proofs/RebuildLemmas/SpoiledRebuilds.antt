@@ -29,13 +29,13 @@ use Rattle.md_laws.proofs.Runs.Rests.{at_once, at_rest}
 use Rattle.md_laws.proofs.Crashes.Spoiled.{crashes_as_spoiled, crashes_at_enrol_as_spoiled, crashes_at_failed_enrol_as_spoiled}
 use Rattle.md_copy.specs.Table.Beginning.{MayBeginRebuild}
 use Rattle.md_copy.specs.Table.Sources.{missing_chunks}
-use Rattle.md_copy.specs.Passes.Passing.{AreListedPasses, CopiesAll, ListsPass, RecordsPass}
-use Rattle.md_copy.specs.Readying.Admission.{AdmitsAfter, FailsAdmission, Readies}
+use Rattle.md_copy.specs.Passing.{AreListedPasses, CopiesAll, ListsPass, RecordsPass}
+use Rattle.md_copy.specs.Readying.{AdmitsAfter, FailsAdmission, Readies}
 use Rattle.md_copy.specs.RebuildEvents.{IsBeforeEnrol, IsOfUnfinished}
 use Rattle.md_copy.specs.Rebuilding.{EndsStoring}
 use Rattle.md_copy.proofs.Ready.Lowered.{lowered_but}
-use Rattle.md_copy.specs.Readying.Storing.{FailsToRecordTarget}
-use Rattle.md_copy.specs.Passes.Stretches.{AreRecorded, RecordsStretch, slots_after, slots_before}
+use Rattle.md_copy.specs.Storing.{FailsToRecordTarget}
+use Rattle.md_copy.specs.Stretches.{AreRecorded, RecordsStretch, slots_after, slots_before}
 use Rattle.md_copy.proofs.Fills.LentBack.{rebuilt_out}
 use Rattle.md_copy.proofs.Passing.PassesTold.{HoldsSoFar, holds_alone, listed_holds, one_holds}
 use Rattle.md_copy.proofs.Ready.Readied.{may_then, spare_rebuilt}

@@ -15,10 +15,10 @@ use Rattle.md_array.specs.Worlds.{AreHonest}
 use Rattle.md_laws.specs.Left.{contents_of}
 use Rattle.md_laws.specs.CrashesWithin.{MayAllBeLeft}
 use Rattle.md_copy.specs.Table.Sources.{missing_chunks}
-use Rattle.md_copy.specs.Passes.Filling.{IsFilling}
-use Rattle.md_copy.specs.Passes.Listing.{ListsAll, NotesLists, EndsAtList}
-use Rattle.md_copy.specs.Passes.Passing.{AreListedPasses, MakesPart, RecordsPass}
-use Rattle.md_copy.specs.Passes.Stretches.{MakesStretch, MayCopySlots}
+use Rattle.md_copy.specs.Filling.{IsFilling}
+use Rattle.md_copy.specs.Listing.{ListsAll, NotesLists, EndsAtList}
+use Rattle.md_copy.specs.Passing.{AreListedPasses, MakesPart, RecordsPass}
+use Rattle.md_copy.specs.Stretches.{MakesStretch, MayCopySlots}
 use Rattle.md_copy.specs.Rebuilding.{BeginsRebuild}
 use Rattle.md_call_laws.specs.Rebuilds.RebuildCrashes.{IsSuperWhole}
 

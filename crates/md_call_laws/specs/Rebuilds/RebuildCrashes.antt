@@ -27,12 +27,12 @@ use Rattle.md_metadata.specs.Going.{GoesOn, only_others}
 use Rattle.md_metadata.specs.Storing.{IsStoring}
 use Rattle.md_copy.specs.Table.Sources.{missing_chunks}
 use Rattle.md_copy.specs.declared.rebuilt.Rebuilt.{Rebuilt}
-use Rattle.md_copy.specs.Passes.Filling.{IsFilling}
-use Rattle.md_copy.specs.Passes.Listing.{IsStoringList, NotesLists}
-use Rattle.md_copy.specs.Passes.Passing.{AreListedPasses, CopiesAll, ListsPass, MakesPart, RecordsPass}
-use Rattle.md_copy.specs.Readying.Admission.{AdmitsAfter, FailsAdmission, Readies}
-use Rattle.md_copy.specs.Readying.Storing.{FailsToRecordTarget, StoresFirst}
-use Rattle.md_copy.specs.Passes.Stretches.{AreRecorded, MakesStretch, MayCopySlots, RecordsStretch, slots_after, slots_before}
+use Rattle.md_copy.specs.Filling.{IsFilling}
+use Rattle.md_copy.specs.Listing.{IsStoringList, NotesLists}
+use Rattle.md_copy.specs.Passing.{AreListedPasses, CopiesAll, ListsPass, MakesPart, RecordsPass}
+use Rattle.md_copy.specs.Readying.{AdmitsAfter, FailsAdmission, Readies}
+use Rattle.md_copy.specs.Storing.{FailsToRecordTarget, StoresFirst}
+use Rattle.md_copy.specs.Stretches.{AreRecorded, MakesStretch, MayCopySlots, RecordsStretch, slots_after, slots_before}
 use Rattle.md_copy.specs.RebuildEvents.{FailsAtMarks, IsBeforeEnrol, IsOfRebuild, IsOfUnfinished}
 use Rattle.md_copy.specs.Rebuilding.{BeginsRebuild, EndsStoring, FillsBy, Rebuilds}
 use Rattle.md_call_laws.specs.Rebuilds.RebuildRuns.{AtMomentsWith, StaysReadable}

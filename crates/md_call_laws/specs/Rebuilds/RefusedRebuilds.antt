@@ -17,8 +17,8 @@ use Rattle.md_laws.specs.Runs.{Moment}
 use Rattle.md_laws.specs.CallCrashes.{AtMoments}
 use Rattle.md_laws.specs.CrashesWithin.{MayAllBeLeft}
 use Rattle.md_metadata.specs.Going.{GoesOn, only_others}
-use Rattle.md_copy.specs.Passes.Listing.{IsStoringList, NotesLists}
-use Rattle.md_copy.specs.Passes.Passing.{RecordsPass}
+use Rattle.md_copy.specs.Listing.{IsStoringList, NotesLists}
+use Rattle.md_copy.specs.Passing.{RecordsPass}
 use Rattle.md_copy.specs.RebuildEvents.{IsBeforeEnrol}
 use Rattle.md_copy.specs.Rebuilding.{BeginsRebuild, LacksMemoryToRebuild, LacksRoom}
 use Rattle.md_call_laws.specs.Rebuilds.RebuildRuns.{AtMomentsWith, RunsTo}

@@ -16,8 +16,8 @@ use Rattle.md_laws.specs.Left.{contents_of}
 use Rattle.md_laws.specs.CallCrashes.{AtMoments, CrashesIn}
 use Rattle.md_laws.specs.CrashesWithin.{MayAllBeLeft}
 use Rattle.md_metadata.specs.Going.{GoesOn, only_others}
-use Rattle.md_copy.specs.Passes.Listing.{IsStoringList, StoresLists}
-use Rattle.md_copy.specs.Passes.Passing.{RecordsPass}
+use Rattle.md_copy.specs.Listing.{IsStoringList, StoresLists}
+use Rattle.md_copy.specs.Passing.{RecordsPass}
 use Rattle.md_copy.specs.RebuildEvents.{FailsAtMarks}
 use Rattle.md_copy.specs.Rebuilding.{BeginsRebuild}
 use Rattle.md_copy.specs.Salvaging.Filling.{AreSalvaged, FillsChunk, FillsWithin, IsTargetLeft, SalvagesChunk}

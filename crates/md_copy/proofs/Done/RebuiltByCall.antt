@@ -21,10 +21,10 @@ use Rattle.md_array.proofs.StepLemmas.FailedParts.{halting_write}
 use Rattle.md_copy.specs.Table.Orphans.{is_in}
 use Rattle.md_copy.specs.Table.Sources.{missing_chunks}
 use Rattle.md_copy.specs.declared.rebuilt.Rebuilt.{Rebuilt}
-use Rattle.md_copy.specs.Passes.Filling.{CountsFailed, HaveFailedThere}
+use Rattle.md_copy.specs.Filling.{CountsFailed, HaveFailedThere}
 use Rattle.md_copy.specs.Rebuilding.{Rebuilds, RebuildsReadied}
 use Rattle.md_copy.specs.Rebuilt.{HaltsFrom, HaltsTo, HasRebuilt, IsRebuilt, IsRebuiltInSync, ListsGrow, RunsOrHalts, failed_of}
-use Rattle.md_copy.specs.Readying.Storing.{StoresUntilDone}
+use Rattle.md_copy.specs.Storing.{StoresUntilDone}
 use Rattle.md_copy.proofs.Ready.BegunAs.{permits_both, same_missing, serves_both, serves_most}
 use Rattle.md_copy.proofs.Listings.ListsKept.{own_stored_so, stored_so}
 use Rattle.md_copy.proofs.Passing.PassesTold.{HoldsSoFar, begins_holding}

@@ -41,8 +41,8 @@ use Rattle.md_copy.specs.Table.Orphans.{is_in, uncopied_chunks}
 use Rattle.md_copy.specs.Table.Sources.{LacksChunk, missing_chunks}
 use Rattle.md_copy.proofs.TableLemmas.Served.{in_sync_as}
 use Rattle.md_copy.specs.declared.rebuilt.Rebuilt.{Rebuilt}
-use Rattle.md_copy.specs.Passes.Held.{AreHeld}
-use Rattle.md_copy.specs.Readying.Ready.{IsReadyToCopy}
+use Rattle.md_copy.specs.Held.{AreHeld}
+use Rattle.md_copy.specs.Ready.{IsReadyToCopy}
 use Rattle.md_copy.specs.Rebuilding.{RebuildsReadied}
 use Rattle.md_copy.specs.Rebuilt.{IsBesideCopied, IsRebuilt, IsServedThen, failed_of}
 use Rattle.md_copy.proofs.Failing.{HasGrown, there_still}

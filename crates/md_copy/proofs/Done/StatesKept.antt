@@ -14,10 +14,10 @@ use Rattle.md_state.specs.View.{ArrayView, Disk, MirrorView}
 use Rattle.md_array.specs.Steps.Admit.{Admits}
 use Rattle.md_array.proofs.General.Indices.{at_map, got_in_map, got_other}
 use Rattle.md_copy.specs.declared.rebuilt.Rebuilt.{Rebuilt}
-use Rattle.md_copy.specs.Readying.Admission.{AdmitsFirst, Readies}
+use Rattle.md_copy.specs.Readying.{AdmitsFirst, Readies}
 use Rattle.md_copy.specs.Rebuilding.{BeginsRebuild, RebuildsReadied}
 use Rattle.md_copy.specs.Rebuilt.{FailsWrite, failed_of}
-use Rattle.md_copy.specs.Readying.Storing.{StoresFirst}
+use Rattle.md_copy.specs.Storing.{StoresFirst}
 use Rattle.md_copy.proofs.Passing.PassesKeep.{all_keep, disk_then}
 use Rattle.md_copy.proofs.Ready.Lowered.{lowered_before}
 use Rattle.md_copy.proofs.Stored.StoringKeeps.{KeepsAll, device_then}

@@ -19,8 +19,8 @@ use Rattle.md_pass.specs.Sources.{MayRead, copy_of}
 use Rattle.md_pass.specs.declared.source.Source.{Source}
 use Rattle.md_state.specs.View.{Disk, MirrorView, disk_of, of_disks}
 use Rattle.md_state.specs.DiskWrites.{AtDevice}
-use Rattle.md_copy.specs.Passes.Filling.{IsCopiedSlot}
-use Rattle.md_copy.specs.Passes.RebuildSources.{AreSources, place_beside}
+use Rattle.md_copy.specs.Filling.{IsCopiedSlot}
+use Rattle.md_copy.specs.RebuildSources.{AreSources, place_beside}
 use Rattle.md_copy.proofs.Plans.Beside.{beside_is, beside_within}
 use Rattle.md_copy.proofs.Plans.Lists.{got_of, mapped_at, mapped_from, removed_of}
 

@@ -31,8 +31,8 @@ use Rattle.md_state.specs.Missing.{is_rebuilt}
 use Rattle.md_state.specs.View.{Disk, MirrorView}
 use Rattle.md_array.specs.Consistency.{IsConsistent}
 use Rattle.md_copy.proofs.TableLemmas.Served.{in_sync_as}
-use Rattle.md_copy.specs.Passes.Filling.{CopiesChunks, CountsFailed, FailsOnWrite, FillsPass, HaveFailedOnlyThere, HaveFailedThere, IsFilling, IsOfUncopiedSlot}
-use Rattle.md_copy.specs.Passes.RebuildSources.{AreSources, IsPlanOf, IsServedBy, IsSourceAt, place_beside}
+use Rattle.md_copy.specs.Filling.{CopiesChunks, CountsFailed, FailsOnWrite, FillsPass, HaveFailedOnlyThere, HaveFailedThere, IsFilling, IsOfUncopiedSlot}
+use Rattle.md_copy.specs.RebuildSources.{AreSources, IsPlanOf, IsServedBy, IsSourceAt, place_beside}
 use Rattle.md_copy.proofs.Fills.Returned.{same_mirror, same_with}
 use Rattle.md_copy.proofs.Fills.Carried.{other_counts, other_only, other_there, seen, slot_copied, target_beside, target_fails}
 use Rattle.md_copy.proofs.Fills.LentBack.{filling, rebuilt_out, within}

@@ -22,8 +22,8 @@ use Rattle.md_state.specs.View.{ArrayView, Disk, MirrorView, disk_of, of_disks}
 use Rattle.md_state.proofs.Stays.{stays_grown}
 use Rattle.md_array.specs.Consistency.{IsConsistent}
 use Rattle.md_array.specs.Steps.Lend.{AreBack, ComesBackFromLoan}
-use Rattle.md_copy.specs.Passes.Filling.{IsFilling}
-use Rattle.md_copy.specs.Passes.RebuildSources.{IsPlanOf}
+use Rattle.md_copy.specs.Filling.{IsFilling}
+use Rattle.md_copy.specs.RebuildSources.{IsPlanOf}
 use Rattle.md_copy.proofs.Fills.Carried.{others_read, seen, target_kept}
 use Rattle.md_copy.proofs.Plans.PlanChunks.{planned_given, slot_given}
 

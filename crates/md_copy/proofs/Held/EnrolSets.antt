@@ -17,10 +17,10 @@ use Rattle.md_copy.specs.declared.beginning.fault.RebuildFault.TheVariants.{Halt
 use Rattle.md_copy.specs.Table.Orphans.{is_in, uncopied_chunks}
 use Rattle.md_copy.specs.Table.Sources.{LacksChunk, is_missing, missing_chunks}
 use Rattle.md_copy.specs.declared.rebuilt.Rebuilt.{Rebuilt}
-use Rattle.md_copy.specs.Ending.Enrolled.{EnrolsCopied, FailsCopied, HasSets, RefusesFilledTarget}
-use Rattle.md_copy.specs.Passes.Held.{AreHeld}
-use Rattle.md_copy.specs.Ending.Leaving.{MayRecordAtEnd}
-use Rattle.md_copy.specs.Readying.Ready.{IsReadyToCopy}
+use Rattle.md_copy.specs.Enrolled.{EnrolsCopied, FailsCopied, HasSets, RefusesFilledTarget}
+use Rattle.md_copy.specs.Held.{AreHeld}
+use Rattle.md_copy.specs.Leaving.{MayRecordAtEnd}
+use Rattle.md_copy.specs.Ready.{IsReadyToCopy}
 use Rattle.md_copy.proofs.Held.HeldChunks.{holds_of, recordable}
 use Rattle.md_copy.proofs.Plans.PlanChunks.{all_lacking, count}
 

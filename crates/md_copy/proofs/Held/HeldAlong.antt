@@ -21,7 +21,7 @@ use Rattle.md_array.specs.Worlds.{AreHonest, is_listed, none_in_flight, stored_o
 use Rattle.md_array.proofs.StepLemmas.OneMember.{stored_there}
 use Rattle.md_array.proofs.Worlds.InSync.{in_sync_is, in_sync_there, number_at}
 use Rattle.md_metadata.specs.Storing.{IsNoFailure, IsStoring}
-use Rattle.md_copy.specs.Readying.Storing.{StoresFirst}
+use Rattle.md_copy.specs.Storing.{StoresFirst}
 
 -- ---- on devices, and in the world
 module _ (v : MirrorView) (sound : IsConsistent v) (resynced : v.array.resynced ≡ true) (content : Content) where

@@ -14,8 +14,8 @@ use Rattle.md_array.specs.Steps.Checkpoint.{MayCheckpoint}
 use Rattle.md_array.specs.Consistency.{IsConsistent}
 use Rattle.md_array.specs.Steps.Enrol.{HoldsContent, HoldsCopied}
 use Rattle.md_array.specs.Worlds.{AreHonest, is_listed}
-use Rattle.md_copy.specs.Passes.Held.{IsHeld}
-use Rattle.md_copy.specs.Readying.Ready.{IsReadyToCopy, IsRecordable}
+use Rattle.md_copy.specs.Held.{IsHeld}
+use Rattle.md_copy.specs.Ready.{IsReadyToCopy, IsRecordable}
 use Rattle.md_copy.proofs.Held.Sectors.{same_sector}
 
 module _ (target : ℕ) (v : MirrorView) (sound : IsConsistent v) (running : v.array.halted ≡ false) where

@@ -12,9 +12,9 @@ use Rattle.md_pass.specs.Beside.{has_chunk}
 use Rattle.md_state.specs.Members.{IsMember}
 use Rattle.md_state.specs.Missing.{is_missing}
 use Rattle.md_state.specs.View.{ArrayView, Disk, MirrorView}
-use Rattle.md_copy.specs.Passes.Filling.{CopiesChunks}
-use Rattle.md_copy.specs.Passes.Held.{AreHeld, IsHeld}
-use Rattle.md_copy.specs.Passes.RebuildSources.{ServesChunk}
+use Rattle.md_copy.specs.Filling.{CopiesChunks}
+use Rattle.md_copy.specs.Held.{AreHeld, IsHeld}
+use Rattle.md_copy.specs.RebuildSources.{ServesChunk}
 use Rattle.md_copy.proofs.Held.Sectors.{apart_chunks, same_chunk}
 
 module _ (target : ℕ) (m : MemberView) (slots : List Slot) (before after : Bitmap) (v w : MirrorView) (at : IsMember v.array target m) (h : CopiesChunks target m slots before after v w) where

@@ -20,9 +20,9 @@ use Rattle.md_state.specs.Members.{IsInSync, IsMember}
 use Rattle.md_state.specs.Missing.{has_passed, is_missing}
 use Rattle.md_state.specs.View.{ArrayView, Disk, MirrorView}
 use Rattle.md_array.specs.Consistency.{IsConsistent}
-use Rattle.md_copy.specs.Passes.Held.{AreHeld, IsHeld}
-use Rattle.md_copy.specs.Passes.Listing.{WritesMetadata}
-use Rattle.md_copy.specs.Passes.RebuildSources.{ServesChunk}
+use Rattle.md_copy.specs.Held.{AreHeld, IsHeld}
+use Rattle.md_copy.specs.Listing.{WritesMetadata}
+use Rattle.md_copy.specs.RebuildSources.{ServesChunk}
 use Rattle.md_copy.proofs.Held.HeldRecorded.{lacks_so}
 use Rattle.md_copy.proofs.Held.Sectors.{chunk_within, same_chunk}
 

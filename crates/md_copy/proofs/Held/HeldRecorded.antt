@@ -30,7 +30,7 @@ use Rattle.md_array.specs.Steps.Checkpoint.{Checkpoints}
 use Rattle.md_array.specs.Consistency.{IsConsistent}
 use Rattle.md_array.specs.Steps.Enrol.{KeepsData}
 use Rattle.md_array.proofs.General.Indices.{at_set_same, got_other}
-use Rattle.md_copy.specs.Passes.Held.{AreHeld, IsHeld}
+use Rattle.md_copy.specs.Held.{AreHeld, IsHeld}
 use Rattle.md_copy.proofs.Held.Sectors.{chunk_within, same_chunk}
 use Rattle.md_copy.proofs.Stored.StoringKeeps.{beside_super_of, places_of}
 

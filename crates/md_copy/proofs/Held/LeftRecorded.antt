@@ -7,9 +7,9 @@ use Rattle.md_faults.specs.declared.enrol_fault.TargetFault.TheVariants.{Halted,
 use Rattle.md_state.specs.View.{MirrorView}
 use Rattle.md_array.specs.Steps.Checkpoint.{MayCheckpoint, RefusesCheckpoint}
 use Rattle.md_array.specs.Consistency.{IsConsistent}
-use Rattle.md_copy.specs.Passes.Held.{AreHeld}
-use Rattle.md_copy.specs.Ending.Leaving.{RecordsAtEnd}
-use Rattle.md_copy.specs.Readying.Ready.{IsRecordable}
+use Rattle.md_copy.specs.Held.{AreHeld}
+use Rattle.md_copy.specs.Leaving.{RecordsAtEnd}
+use Rattle.md_copy.specs.Ready.{IsRecordable}
 use Rattle.md_copy.proofs.Held.HeldChunks.{may_record}
 
 module _ (target : ℕ) (v : MirrorView) (sound : IsConsistent v) (within : target < length v.array.members) (copied : Bitmap) where

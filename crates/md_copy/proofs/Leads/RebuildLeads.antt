@@ -41,15 +41,15 @@ use Rattle.md_metadata.proofs.Going.{recording_stores}
 use Rattle.md_metadata.specs.Storing.{IsStoring}
 use Rattle.md_copy.specs.Table.Sources.{LacksChunk, missing_chunks}
 use Rattle.md_copy.specs.declared.rebuilt.Rebuilt.{Rebuilt}
-use Rattle.md_copy.specs.Passes.Filling.{IsFilling}
-use Rattle.md_copy.specs.Passes.Listing.{IsNoting, IsStoringList}
-use Rattle.md_copy.specs.Passes.Passing.{AreListedPasses, CopiesAll, ListsPass, RecordsPass}
+use Rattle.md_copy.specs.Filling.{IsFilling}
+use Rattle.md_copy.specs.Listing.{IsNoting, IsStoringList}
+use Rattle.md_copy.specs.Passing.{AreListedPasses, CopiesAll, ListsPass, RecordsPass}
 use Rattle.md_copy.specs.RebuildEvents.{AreOfAdmission, AreOfLowering, AreOfPasses, AreOfStretches, AreStored, HaltsIn, IsBeforeEnrol, IsOfRebuild, RebuildLeads}
 use Rattle.md_copy.specs.Rebuilding.{BeginsRebuild, EnrolsBy, FillsBy, Rebuilds}
 use Rattle.md_copy.specs.Rebuilt.{HaltsFrom}
-use Rattle.md_copy.specs.Readying.Admission.{AdmitsAfter, AdmitsFirst, LowersTarget, Readies}
-use Rattle.md_copy.specs.Readying.Storing.{StoresFirst}
-use Rattle.md_copy.specs.Passes.Stretches.{AreRecorded, MayCopySlots, slots_after, slots_before}
+use Rattle.md_copy.specs.Readying.{AdmitsAfter, AdmitsFirst, LowersTarget, Readies}
+use Rattle.md_copy.specs.Storing.{StoresFirst}
+use Rattle.md_copy.specs.Stretches.{AreRecorded, MayCopySlots, slots_after, slots_before}
 use Rattle.md_copy.proofs.Stored.CheckpointDone.{checkpoint_done}
 use Rattle.md_copy.proofs.Passing.PassesTold.{HoldsSoFar, begins_holding, chain_holds, holds_alone, listed_holds, one_holds}
 use Rattle.md_copy.proofs.Passing.StretchSlots.{may_clear, may_lack}

@@ -38,17 +38,17 @@ use Rattle.md_metadata.specs.Storing.{FailsAtLast, IsFailureOf}
 use Rattle.md_copy.specs.declared.beginning.fault.RebuildFault.{RebuildFault}
 use Rattle.md_copy.specs.declared.beginning.fault.RebuildFault.TheVariants.{Halted, NotSpare, Dirty, InFlight, LogFull, NoMemory, TargetFault, MetadataFault, EventsFull}
 use Rattle.md_copy.specs.Table.Sources.{missing_chunks}
-use Rattle.md_copy.specs.Passes.Filling.{IsFilling}
+use Rattle.md_copy.specs.Filling.{IsFilling}
 use Rattle.md_state.specs.Steps.Checkpoint.{checked}
-use Rattle.md_copy.specs.Ending.Leaving.{RecordsAtEnd}
-use Rattle.md_copy.specs.Passes.Listing.{EndsNoting}
-use Rattle.md_copy.specs.Passes.Passing.{BreaksOffPass, CopiesAll, EndsBetween, FailsListing, FailsRecording, LacksMemoryToPass, MakesPart}
+use Rattle.md_copy.specs.Leaving.{RecordsAtEnd}
+use Rattle.md_copy.specs.Listing.{EndsNoting}
+use Rattle.md_copy.specs.Passing.{BreaksOffPass, CopiesAll, EndsBetween, FailsListing, FailsRecording, LacksMemoryToPass, MakesPart}
 use Rattle.md_copy.specs.RebuildEvents.{FailsAfterPass, FailsAtMarks, FailsCheckpoint, AreOfLeaving, EventsEndWith, FailsAtMember, FailsLeaving, HaltsIn, IsBeforeEnrol, IsListOfUnfinished, IsOfUnfinished, LeadsOrHalts, LeadsUnadmitted, LeadsUnfinished, LeadsUnrecorded, TellsFault, TellsLeaving, TellsMember, WritesTarget}
 use Rattle.md_copy.specs.Rebuilding.{EndsFilled, EndsReadied, EndsStoring, LacksMemoryToRebuild, LacksRoom, LosesSource, LosesTarget, RefusesRebuild}
-use Rattle.md_copy.specs.Readying.Ready.{IsReadyToCopy}
-use Rattle.md_copy.specs.Readying.Admission.{FailsAdmission, EndsAdmitted}
-use Rattle.md_copy.specs.Readying.Storing.{FailsToRecordTarget, EndsAtOther}
-use Rattle.md_copy.specs.Passes.Stretches.{MayCopySlots, slots_before}
+use Rattle.md_copy.specs.Ready.{IsReadyToCopy}
+use Rattle.md_copy.specs.Readying.{FailsAdmission, EndsAdmitted}
+use Rattle.md_copy.specs.Storing.{FailsToRecordTarget, EndsAtOther}
+use Rattle.md_copy.specs.Stretches.{MayCopySlots, slots_before}
 use Rattle.md_copy.proofs.Steps.Answered.{with_set}
 use Rattle.md_copy.proofs.Held.HeldRecorded.{out_of_sync}
 use Rattle.md_copy.proofs.Passing.PassRecorded.{recorded_ready}

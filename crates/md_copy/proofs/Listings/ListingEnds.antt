@@ -8,8 +8,8 @@ use Rattle.md_state.specs.View.{MirrorView}
 use Rattle.md_copy.specs.declared.beginning.fault.RebuildFault.{RebuildFault}
 use Rattle.md_copy.specs.declared.beginning.fault.RebuildFault.TheVariants.{Halted, NotSpare, Dirty, InFlight, LogFull, NoMemory, TargetFault, MetadataFault, EventsFull}
 use Rattle.md_copy.specs.Table.Sources.{HasSources}
-use Rattle.md_copy.specs.Passes.Listing.{ListsAll, NotesLists, EndsListing, EndsStoringLists}
-use Rattle.md_copy.specs.Passes.Passing.{GoesOnWith, FailsBetween}
+use Rattle.md_copy.specs.Listing.{ListsAll, NotesLists, EndsListing, EndsStoringLists}
+use Rattle.md_copy.specs.Passing.{GoesOnWith, FailsBetween}
 use Rattle.md_copy.specs.Preparing.{IsNoMemory}
 
 module _ (failed : List Slot) (old noted new : MirrorView) where

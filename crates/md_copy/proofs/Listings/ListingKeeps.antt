@@ -43,7 +43,7 @@ use Rattle.md_array.proofs.Worlds.Outside.{LiesIn, apart_from_part}
 use Rattle.md_metadata.specs.Going.{GoesOn, HaltsAfter, only_others}
 use Rattle.md_metadata.specs.Storing.{FailsAtLast, IsFailureOf, IsNoFailure}
 use Rattle.md_metadata.specs.StoringLists.{IsListing}
-use Rattle.md_copy.specs.Passes.Listing.{WritesMetadata}
+use Rattle.md_copy.specs.Listing.{WritesMetadata}
 use Rattle.md_copy.proofs.Stored.StoringKeeps.{fails_many, set_state}
 
 -- ---- where a member's data are

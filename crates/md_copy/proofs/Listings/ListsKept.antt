@@ -31,12 +31,12 @@ use Rattle.md_metadata.specs.Going.{GoesOn, only_others}
 use Rattle.md_metadata.specs.Storing.{IsStoring}
 use Rattle.md_copy.specs.Table.Sources.{missing_chunks}
 use Rattle.md_copy.specs.declared.rebuilt.Rebuilt.{Rebuilt}
-use Rattle.md_copy.specs.Passes.Filling.{IsFilling}
-use Rattle.md_copy.specs.Passes.Listing.{HasFailedSlot, HasListOn, NotesLists}
-use Rattle.md_copy.specs.Passes.Passing.{AreListedPasses, CopiesAll, ListsPass, RecordsPass}
+use Rattle.md_copy.specs.Filling.{IsFilling}
+use Rattle.md_copy.specs.Listing.{HasFailedSlot, HasListOn, NotesLists}
+use Rattle.md_copy.specs.Passing.{AreListedPasses, CopiesAll, ListsPass, RecordsPass}
 use Rattle.md_copy.specs.Rebuilding.{RebuildsReadied}
 use Rattle.md_copy.specs.Rebuilt.{failed_of}
-use Rattle.md_copy.specs.Passes.Stretches.{AreRecorded, slots_after, slots_before}
+use Rattle.md_copy.specs.Stretches.{AreRecorded, slots_after, slots_before}
 use Rattle.md_copy.proofs.Held.HeldRecorded.{other_is}
 use Rattle.md_copy.proofs.Listings.ListsOn.{AtInSync, IsCanonicalAt, IsRecordedOn, list_on, lists_stored, recorded_still, recorded_storing, same_bad}
 use Rattle.md_copy.proofs.Listings.ListsStored.{failed_fits}

@@ -54,7 +54,7 @@ use Rattle.md_array.proofs.Worlds.Outside.{starts_at}
 use Rattle.md_array.proofs.Worlds.PartsApart.{block_beside_marks, log_beside_marks, log_beside_super, parts_of}
 use Rattle.md_metadata.specs.Going.{GoesOn, only_others}
 use Rattle.md_metadata.specs.Storing.{IsStoring}
-use Rattle.md_copy.specs.Passes.Listing.{HasListOn, all_list_events}
+use Rattle.md_copy.specs.Listing.{HasListOn, all_list_events}
 use Rattle.md_copy.proofs.Stored.StoringKeeps.{KeepsAll, device_before, due_within, keeps_event, member_before}
 
 -- ---- one device

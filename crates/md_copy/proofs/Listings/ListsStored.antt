@@ -42,7 +42,7 @@ use Rattle.md_copy.specs.PassLaws.Listed.{IsOfFailed, ListsFailed, ListsOwn}
 use Rattle.md_copy.specs.declared.beginning.fault.RebuildFault.{RebuildFault}
 use Rattle.md_copy.specs.declared.beginning.fault.RebuildFault.TheVariants.{MetadataFault}
 use Rattle.md_copy.proofs.TableLemmas.Served.{in_sync_as}
-use Rattle.md_copy.specs.Passes.Listing.{AreListsOf, FitsLog, HasFailedSlot, HasListOn, HaveRoom, IsListOn, IsStoringList, KeepsListAndData, ListsAll, NotesLists, EndsAtList, EndsStoringLists, StoresIfFailed, StoresListIf, StoresLists, StoresOwn, WritesMetadata, all_list_events}
+use Rattle.md_copy.specs.Listing.{AreListsOf, FitsLog, HasFailedSlot, HasListOn, HaveRoom, IsListOn, IsStoringList, KeepsListAndData, ListsAll, NotesLists, EndsAtList, EndsStoringLists, StoresIfFailed, StoresListIf, StoresLists, StoresOwn, WritesMetadata, all_list_events}
 use Rattle.md_copy.proofs.Listings.ListingKeeps.{KeepsPlaces, LeavesBeside, apart_of, listing_fails, listing_fields, listing_halt_fails, listing_halts, listing_leaves, writes_one, writes_same, writes_then}
 use Rattle.md_copy.proofs.Listings.ListsOn.{IsCanonicalAt, any_or_none, list_on, lists_beside, lists_stored}
 

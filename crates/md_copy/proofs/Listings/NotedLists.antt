@@ -30,7 +30,7 @@ use Rattle.md_copy.proofs.PassLemmas.Listing.{lists_add}
 use Rattle.md_copy.specs.declared.beginning.fault.RebuildFault.{RebuildFault}
 use Rattle.md_copy.specs.declared.beginning.fault.RebuildFault.TheVariants.{LogFull, NoMemory}
 use Rattle.md_copy.proofs.TableLemmas.Served.{in_sync_as}
-use Rattle.md_copy.specs.Passes.Listing.{ChangesListAlone, FitsLog, HaveRoom, IsNoting, NotesLists, RefusesSlot, EndsNoting, WhyNotNoted}
+use Rattle.md_copy.specs.Listing.{ChangesListAlone, FitsLog, HaveRoom, IsNoting, NotesLists, RefusesSlot, EndsNoting, WhyNotNoted}
 use Rattle.md_copy.proofs.Plans.SourcesChosen.{takes_as}
 
 -- who is in sync in the slot's role has room

@@ -27,13 +27,13 @@ use Rattle.md_array.specs.Consistency.{IsConsistent}
 use Rattle.md_copy.specs.declared.beginning.fault.RebuildFault.{RebuildFault}
 use Rattle.md_copy.specs.declared.beginning.fault.RebuildFault.TheVariants.{Halted, NotSpare, Dirty, InFlight, LogFull, NoMemory, TargetFault, MetadataFault, EventsFull}
 use Rattle.md_copy.specs.Table.Sources.{IsTableIn}
-use Rattle.md_copy.specs.declared.passes.all_passes.Passed.{Passed}
-use Rattle.md_copy.specs.Passes.Held.{AreHeld}
-use Rattle.md_copy.specs.Passes.Passing.{FailsOne, IsTableFor, MakesOne, MakesPart}
+use Rattle.md_copy.specs.declared.passes.Passed.{Passed}
+use Rattle.md_copy.specs.Held.{AreHeld}
+use Rattle.md_copy.specs.Passing.{FailsOne, IsTableFor, MakesOne, MakesPart}
 use Rattle.md_copy.specs.Preparing.{IsNoMemory}
-use Rattle.md_copy.specs.Readying.Ready.{IsReadyToCopy}
-use Rattle.md_copy.specs.Passes.RebuildSources.{IsPlanOf}
-use Rattle.md_copy.specs.Passes.Stretches.{FailsWithin, RecordsStretches}
+use Rattle.md_copy.specs.Ready.{IsReadyToCopy}
+use Rattle.md_copy.specs.RebuildSources.{IsPlanOf}
+use Rattle.md_copy.specs.Stretches.{FailsWithin, RecordsStretches}
 use Rattle.md_copy.proofs.Passing.StretchesTold.{stretches_joined}
 use Rattle.md_copy.proofs.Plans.Planned.{plan_slots}
 

@@ -24,10 +24,10 @@ use Rattle.md_state.specs.View.{ArrayView, MirrorView}
 use Rattle.md_array.specs.Steps.Checkpoint.{Checkpoints}
 use Rattle.md_array.specs.Consistency.{IsConsistent}
 use Rattle.md_copy.specs.Table.Sources.{LacksChunk}
-use Rattle.md_copy.specs.Passes.Held.{AreHeld}
-use Rattle.md_copy.specs.Passes.Passing.{RecordsPass}
-use Rattle.md_copy.specs.Readying.Ready.{IsReadyToCopy}
-use Rattle.md_copy.specs.Passes.Stretches.{AreRecorded, RecordsStretch, slots_after, slots_before}
+use Rattle.md_copy.specs.Held.{AreHeld}
+use Rattle.md_copy.specs.Passing.{RecordsPass}
+use Rattle.md_copy.specs.Ready.{IsReadyToCopy}
+use Rattle.md_copy.specs.Stretches.{AreRecorded, RecordsStretch, slots_after, slots_before}
 use Rattle.md_copy.proofs.Held.HeldFilled.{held_filled}
 use Rattle.md_copy.proofs.Held.HeldListed.{GrowsOnly, held_listed, missing_grown}
 use Rattle.md_copy.proofs.Held.HeldRecorded.{held_recorded, low_start, other_is, out_of_sync, recorded_is, target_same}

@@ -34,13 +34,13 @@ use Rattle.md_copy.specs.declared.beginning.fault.RebuildFault.TheVariants.{Halt
 use Rattle.md_copy.specs.Table.Beginning.{RefusesTable}
 use Rattle.md_copy.specs.Table.Orphans.{IsSetOf}
 use Rattle.md_copy.specs.Table.Sources.{LacksChunk, IsTableOf, missing_chunks}
-use Rattle.md_copy.specs.declared.passes.all_passes.Passed.{Passed}
-use Rattle.md_copy.specs.Passes.Held.{AreHeld}
-use Rattle.md_copy.specs.Ending.Leaving.{MayRecordAtEnd}
-use Rattle.md_copy.specs.Passes.Listing.{ListsAll, NotesLists, EndsListing, EndsNoting}
-use Rattle.md_copy.specs.Passes.Passing.{AreListedPasses, BreaksOffPass, EndsBetween, FailsListing, FailsOne, FailsRecording, GoesOnWith, IsTableFor, LacksMemoryToPass, ListsPass, MakesOne, PassesAll, PassesFail, FailsBetween}
+use Rattle.md_copy.specs.declared.passes.Passed.{Passed}
+use Rattle.md_copy.specs.Held.{AreHeld}
+use Rattle.md_copy.specs.Leaving.{MayRecordAtEnd}
+use Rattle.md_copy.specs.Listing.{ListsAll, NotesLists, EndsListing, EndsNoting}
+use Rattle.md_copy.specs.Passing.{AreListedPasses, BreaksOffPass, EndsBetween, FailsListing, FailsOne, FailsRecording, GoesOnWith, IsTableFor, LacksMemoryToPass, ListsPass, MakesOne, PassesAll, PassesFail, FailsBetween}
 use Rattle.md_copy.specs.Preparing.{IsNoMemory}
-use Rattle.md_copy.specs.Readying.Ready.{IsReadyToCopy, IsRecordable}
+use Rattle.md_copy.specs.Ready.{IsReadyToCopy, IsRecordable}
 use Rattle.md_copy.proofs.Held.HeldChunks.{recordable}
 use Rattle.md_copy.proofs.Held.HeldListed.{GrowsOnly, none_written}
 use Rattle.md_copy.proofs.Held.HeldRecorded.{out_of_sync}

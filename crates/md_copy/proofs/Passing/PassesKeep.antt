@@ -26,11 +26,11 @@ use Rattle.md_state.specs.View.{ArrayView, Disk, MirrorView, of_disks}
 use Rattle.md_array.specs.Steps.Enrol.{KeepsData}
 use Rattle.md_array.specs.Steps.Lend.{IsBesideChunk}
 use Rattle.md_copy.specs.Table.Sources.{missing_chunks}
-use Rattle.md_copy.specs.Passes.Filling.{HaveFailedThere}
+use Rattle.md_copy.specs.Filling.{HaveFailedThere}
 use Rattle.md_copy.proofs.Failing.{HasGrown, grown_by, grown_same, grown_then, none_there, there_since, there_still}
-use Rattle.md_copy.specs.Passes.Passing.{AreListedPasses, CopiesAll, ListsPass, RecordsPass}
+use Rattle.md_copy.specs.Passing.{AreListedPasses, CopiesAll, ListsPass, RecordsPass}
 use Rattle.md_copy.specs.Rebuilt.{failed_of}
-use Rattle.md_copy.specs.Passes.Stretches.{AreRecorded, RecordsStretch, StretchesMadeAsOne, is_after, is_before, slots_after, slots_before}
+use Rattle.md_copy.specs.Stretches.{AreRecorded, RecordsStretch, StretchesMadeAsOne, is_after, is_before, slots_after, slots_before}
 use Rattle.md_copy.proofs.Held.HeldRecorded.{data_kept, other_is, target_same}
 use Rattle.md_copy.proofs.Passing.PassRecorded.{lists_recorded}
 use Rattle.md_copy.proofs.Passing.StretchSlots.{filter_there}

@@ -18,8 +18,8 @@ use Rattle.md_state.specs.Steps.Checkpoint.{checked}
 use Rattle.md_state.specs.View.{ArrayView, MirrorView}
 use Rattle.md_copy.specs.Table.Orphans.{uncopied_chunks}
 use Rattle.md_copy.specs.Table.Sources.{missing_chunks}
-use Rattle.md_copy.specs.Passes.Passing.{AreListedPasses, CopiesAll, ListsPass, RecordsPass}
-use Rattle.md_copy.specs.Passes.Stretches.{AreRecorded, RecordsStretch, slots_after, slots_before}
+use Rattle.md_copy.specs.Passing.{AreListedPasses, CopiesAll, ListsPass, RecordsPass}
+use Rattle.md_copy.specs.Stretches.{AreRecorded, RecordsStretch, slots_after, slots_before}
 use Rattle.md_copy.proofs.Held.HeldListed.{GrowsOnly, missing_grown}
 use Rattle.md_copy.proofs.Held.HeldRecorded.{lacked, lacks_still, out_of_sync, recorded_is, target_same}
 

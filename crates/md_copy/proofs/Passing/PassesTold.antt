@@ -16,10 +16,10 @@ use Rattle.md_copy.specs.PassLaws.Passes.{PassView, failed_chunks, slots_of_pass
 use Rattle.md_state.specs.Members.{IsMember}
 use Rattle.md_state.specs.View.{ArrayView, MirrorView}
 use Rattle.md_copy.specs.Table.Sources.{LacksChunk, missing_chunks}
-use Rattle.md_copy.specs.Passes.Held.{AreHeld}
-use Rattle.md_copy.specs.Passes.Passing.{AreListedPasses, CopiesAll, ListsPass, RecordsPass}
-use Rattle.md_copy.specs.Readying.Ready.{IsReadyToCopy}
-use Rattle.md_copy.specs.Passes.Stretches.{AreRecorded, RecordsStretch, slots_after, slots_before}
+use Rattle.md_copy.specs.Held.{AreHeld}
+use Rattle.md_copy.specs.Passing.{AreListedPasses, CopiesAll, ListsPass, RecordsPass}
+use Rattle.md_copy.specs.Ready.{IsReadyToCopy}
+use Rattle.md_copy.specs.Stretches.{AreRecorded, RecordsStretch, slots_after, slots_before}
 use Rattle.md_copy.proofs.Held.HeldListed.{GrowsOnly}
 use Rattle.md_copy.proofs.Held.HeldRecorded.{marks_is, out_of_sync, unsaid_recorded}
 use Rattle.md_copy.proofs.Passing.PassRecorded.{at_y, clear_failed, failed_lacks, grown_held, grown_missing, recorded_held, recorded_lists, recorded_ready, stretches_held, stretches_ready, y}

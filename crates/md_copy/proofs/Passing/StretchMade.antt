@@ -27,11 +27,11 @@ use Rattle.md_array.specs.Consistency.{IsConsistent}
 use Rattle.md_copy.specs.declared.beginning.fault.RebuildFault.{RebuildFault}
 use Rattle.md_copy.specs.declared.beginning.fault.RebuildFault.TheVariants.{Halted, NotSpare, Dirty, InFlight, LogFull, NoMemory, TargetFault, MetadataFault, EventsFull}
 use Rattle.md_copy.specs.Table.Sources.{LacksChunk}
-use Rattle.md_copy.specs.Passes.Filling.{BreaksPass, FailsOnWrite, FillsPass}
-use Rattle.md_copy.specs.Passes.Held.{AreHeld}
-use Rattle.md_copy.specs.Readying.Ready.{IsReadyToCopy}
-use Rattle.md_copy.specs.Passes.RebuildSources.{IsPlanOf, IsSlotFor}
-use Rattle.md_copy.specs.Passes.Stretches.{AreLeft, FailsStretch, FailsToRecordStretch, MakesStretch, MayCopySlots, RecordsStretch, is_after, is_before, slots_after, slots_before}
+use Rattle.md_copy.specs.Filling.{BreaksPass, FailsOnWrite, FillsPass}
+use Rattle.md_copy.specs.Held.{AreHeld}
+use Rattle.md_copy.specs.Ready.{IsReadyToCopy}
+use Rattle.md_copy.specs.RebuildSources.{IsPlanOf, IsSlotFor}
+use Rattle.md_copy.specs.Stretches.{AreLeft, FailsStretch, FailsToRecordStretch, MakesStretch, MayCopySlots, RecordsStretch, is_after, is_before, slots_after, slots_before}
 use Rattle.md_copy.proofs.Fills.LentBack.{planned_missing}
 use Rattle.md_copy.proofs.Held.HeldChunks.{may_record, recordable}
 use Rattle.md_copy.proofs.Held.HeldFilled.{held_filled}

@@ -11,7 +11,7 @@ use Rattle.md_pass.specs.Beside.{has_chunk}
 use Rattle.md_state.specs.View.{MirrorView}
 use Rattle.md_copy.specs.Table.Sources.{LacksChunk}
 use Rattle.md_copy.proofs.PassLemmas.OnePass.{one_slot}
-use Rattle.md_copy.specs.Passes.Stretches.{MayCopySlots, is_after, is_before, slots_after}
+use Rattle.md_copy.specs.Stretches.{MayCopySlots, is_after, is_before, slots_after}
 
 -- ---- chunks of slots
 slot_of : (slots : List Slot) (c : ℕ) → has_chunk slots c ≡ true → (s : Slot) × Contains slots s × (s.chunk ≡ c)

@@ -7,9 +7,9 @@ use Rattle.md_bitmap.specs.Marks.{Bitmap}
 use Rattle.md_cert.specs.declared.slots.Slot.{Slot}
 use Rattle.md_state.specs.View.{MirrorView}
 use Rattle.md_copy.specs.declared.beginning.fault.RebuildFault.{RebuildFault}
-use Rattle.md_copy.specs.Passes.Held.{AreHeld}
-use Rattle.md_copy.specs.Readying.Ready.{IsReadyToCopy}
-use Rattle.md_copy.specs.Passes.Stretches.{AreLeft, AreRecorded, FailsStretch, FailsWithin, RecordsStretch, RecordsStretches, is_after, is_before, slots_after, slots_before}
+use Rattle.md_copy.specs.Held.{AreHeld}
+use Rattle.md_copy.specs.Ready.{IsReadyToCopy}
+use Rattle.md_copy.specs.Stretches.{AreLeft, AreRecorded, FailsStretch, FailsWithin, RecordsStretch, RecordsStretches, is_after, is_before, slots_after, slots_before}
 use Rattle.md_copy.proofs.Passing.PassRecorded.{stretch_lists}
 use Rattle.md_copy.proofs.Passing.StretchSlots.{all_left, filter_there, in_filter, left_then, none_left}
 use Rattle.md_copy.proofs.Passing.StretchesTold.{one_recorded}

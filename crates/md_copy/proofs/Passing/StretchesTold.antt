@@ -8,7 +8,7 @@ use Rattle.md_cert.specs.declared.slots.Slot.{Slot}
 use Rattle.md_cert.specs.Plans.{SlotsRise}
 use Rattle.md_pass.specs.Copied.{AreJoined, failed_slots, is_failed_slot}
 use Rattle.md_state.specs.View.{MirrorView}
-use Rattle.md_copy.specs.Passes.Stretches.{AreRecorded, RecordsStretch, is_after, is_before, slots_after, slots_before}
+use Rattle.md_copy.specs.Stretches.{AreRecorded, RecordsStretch, is_after, is_before, slots_after, slots_before}
 use Rattle.md_copy.proofs.Passing.StretchSlots.{apart, filter_as, filter_swap, in_filter, no_chunk_in}
 
 joined_none : (before : Bitmap) (slots : List Slot) → AreJoined slots before before

@@ -2,7 +2,7 @@
 use Rattle.std.proofs.Common.{◌≡◌, ◌≢◌, ◌⊎◌, ◌∙◌, ℕ, ◌+◌, ◌-◌, ◌<◌, nat_lt, List, length, remove, slice_index_or, ap, arith, inl, inr}
 use Rattle.std.proofs.lemmas.Bool.{cases_lt, cond-true, cond-false, lt-ltb, le-ltb}
 use Rattle.std.proofs.lemmas.List.Edits.{get_or-remove_above, get_or-remove_below, length-remove}
-use Rattle.md_copy.specs.Passes.RebuildSources.{place_beside}
+use Rattle.md_copy.specs.RebuildSources.{place_beside}
 
 -- one that stands after the target's is one place lower, any other where it was
 beside_cases : (target k : ℕ) → k ≢ target → ((target < k) × (place_beside target k ≡ k - 1)) ⊎ ((k < target) × (place_beside target k ≡ k))

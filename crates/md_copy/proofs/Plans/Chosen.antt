@@ -12,7 +12,7 @@ use Rattle.md_kept_members.proofs.Members.Indices.{cases_more}
 use Rattle.md_state.specs.View.{ArrayView, MirrorView}
 use Rattle.md_pass.specs.declared.source.Source.{Source}
 use Rattle.md_copy.specs.Table.Sources.{IsInSyncAs}
-use Rattle.md_copy.specs.Passes.RebuildSources.{IsRebuildSource}
+use Rattle.md_copy.specs.RebuildSources.{IsRebuildSource}
 use Rattle.md_copy.proofs.Plans.Planned.{IsAllowed}
 
 abbrev pub IsNamed : List Slot → ℕ → Type 0

@@ -17,7 +17,7 @@ use Rattle.md_array.specs.Consistency.{IsConsistent}
 use Rattle.md_pass.specs.declared.source.Source.{Source}
 use Rattle.md_copy.specs.Table.Targets.{IsTarget, MayBeRebuilt}
 use Rattle.md_copy.proofs.TableLemmas.Served.{in_sync_as}
-use Rattle.md_copy.specs.Passes.RebuildSources.{AreSources, IsServedBy, IsRebuildSource, IsSourceAt, place_beside}
+use Rattle.md_copy.specs.RebuildSources.{AreSources, IsServedBy, IsRebuildSource, IsSourceAt, place_beside}
 use Rattle.md_copy.proofs.Plans.Beside.{beside_is, beside_one, beside_within}
 use Rattle.md_copy.proofs.Plans.Planned.{IsAllowed}
 

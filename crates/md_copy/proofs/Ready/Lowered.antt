@@ -6,7 +6,6 @@ use Rattle.md_assembly.specs.States.{is_in_sync, is_in_sync_as, is_recovering}
 use Rattle.md_bitmap.specs.Marks.{Bitmap}
 use Rattle.md_bitmap.specs.declared.chunks.Chunks.{Chunks}
 use Rattle.md_device.specs.Splice.{part}
-use Rattle.md_kept_members.specs.Enrolling.{log_room}
 use Rattle.md_kept_members.specs.TakingBack.{lowered_member, member_says_of}
 use Rattle.md_kept_members.specs.View.{MemberView}
 use Rattle.md_model.specs.Content.{Content}
@@ -18,7 +17,7 @@ use Rattle.md_array.specs.Steps.Enrol.{HoldsContent}
 use Rattle.md_array.proofs.General.Indices.{at_set_same, got_other}
 use Rattle.md_array.proofs.General.Replaced.{of_set}
 use Rattle.md_array.proofs.StepLemmas.LowerOffset.{lowered_is_consistent}
-use Rattle.md_copy.specs.Readying.Admission.{LowersTarget, LowersTo}
+use Rattle.md_copy.specs.Readying.{LowersTarget, LowersTo}
 use Rattle.md_copy.proofs.Failing.{grown_same}
 use Rattle.md_copy.proofs.Held.HeldRecorded.{out_of_sync}
 use Rattle.md_copy.proofs.Ready.StartedAs.{IsAs, StartsAs}
@@ -134,7 +133,6 @@ module _ (target : ℕ) (none : Bitmap) (old mid : MirrorView) where
       offset = ap (λ (z : MemberView). z.superblock.data_offset) b.is;
       flags = ap (λ (z : MemberView). z.superblock.devflags) b.is;
       size = ap (λ (z : MemberView). z.superblock.data_size) b.is;
-      room = ap (λ (z : MemberView). log_room z.superblock) b.is;
     }
 
     disk_same : (j : ℕ) (d e : Disk) → slice_get old.disks j ≡ Some d → slice_get mid.disks j ≡ Some e → e ≡ d

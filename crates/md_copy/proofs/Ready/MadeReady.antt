@@ -17,9 +17,9 @@ use Rattle.md_copy.specs.declared.beginning.fault.RebuildFault.{RebuildFault}
 use Rattle.md_copy.specs.declared.beginning.fault.RebuildFault.TheVariants.{Halted, NotSpare, Dirty, InFlight, LogFull, NoMemory, TargetFault, MetadataFault, EventsFull}
 use Rattle.md_copy.specs.Table.Beginning.{MayBeginRebuild, rises}
 use Rattle.md_copy.specs.Table.Targets.{IsTarget}
-use Rattle.md_copy.specs.Readying.Ready.{MayRebuildOn}
-use Rattle.md_copy.specs.Readying.Admission.{AdmitsAfter, Readies, RefusesAdmission, RefusesToReady}
-use Rattle.md_copy.specs.Readying.Storing.{FailsToRecordTarget, StoresFirst, StoringEnds}
+use Rattle.md_copy.specs.Ready.{MayRebuildOn}
+use Rattle.md_copy.specs.Readying.{AdmitsAfter, Readies, RefusesAdmission, RefusesToReady}
+use Rattle.md_copy.specs.Storing.{FailsToRecordTarget, StoresFirst, StoringEnds}
 use Rattle.md_copy.proofs.Stored.TargetStates.{target_rebuilt, target_stays}
 use Rattle.md_copy.proofs.Ready.Readied.{admitted_is, after_so, begins_so, not_due, once, recovering_admitted, recovering_else, some_rise, state_then, stored_so, unspent_so}
 

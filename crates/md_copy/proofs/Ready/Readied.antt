@@ -21,9 +21,9 @@ use Rattle.md_metadata.proofs.Going.{same_state}
 use Rattle.md_copy.specs.Table.Beginning.{MayBeginRebuild, rises}
 use Rattle.md_copy.specs.Table.Targets.{IsTarget, MayBeRebuilt}
 use Rattle.md_copy.specs.Rebuilding.{BeginsRebuild}
-use Rattle.md_copy.specs.Readying.Admission.{AdmitsAfter, AdmitsFirst, LowersTarget, Readies}
-use Rattle.md_copy.specs.Readying.Ready.{IsReadyToCopy, MayRebuildOn}
-use Rattle.md_copy.specs.Readying.Storing.{StoresFirst}
+use Rattle.md_copy.specs.Readying.{AdmitsAfter, AdmitsFirst, LowersTarget, Readies}
+use Rattle.md_copy.specs.Ready.{IsReadyToCopy, MayRebuildOn}
+use Rattle.md_copy.specs.Storing.{StoresFirst}
 use Rattle.md_copy.proofs.Ready.Lowered.{IsBut, lowered_but, lowered_others, lowered_sound}
 
 -- ---- states

@@ -25,8 +25,8 @@ use Rattle.md_array.proofs.General.Replaced.{of_set}
 use Rattle.md_array.proofs.StepLemmas.FailedParts.{failed_write}
 use Rattle.md_metadata.specs.Going.{IsSameArray}
 use Rattle.md_metadata.specs.Storing.{FailsAtLast, IsFailureOf, IsNoFailure, IsStoring, LosesStoring}
-use Rattle.md_copy.specs.Passes.Listing.{ChangesListAlone, IsStoringList, ListsAll, NotesLists}
-use Rattle.md_copy.specs.Readying.Ready.{IsReadyToCopy, IsRecordable, MayRebuildOn}
+use Rattle.md_copy.specs.Listing.{ChangesListAlone, IsStoringList, ListsAll, NotesLists}
+use Rattle.md_copy.specs.Ready.{IsReadyToCopy, IsRecordable, MayRebuildOn}
 use Rattle.md_copy.proofs.Held.HeldRecorded.{other_is, out_of_sync, target_same}
 
 -- ---- a pass leaves memory as it is

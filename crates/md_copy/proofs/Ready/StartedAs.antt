@@ -8,7 +8,7 @@ use Rattle.md_badblocks.specs.Runs.{IsBad}
 use Rattle.md_bitmap.specs.Chunks.{InChunk}
 use Rattle.md_bitmap.specs.declared.chunks.Chunks.{Chunks}
 use Rattle.md_bitmap.specs.Marks.{Bitmap, is_set}
-use Rattle.md_kept_members.specs.Enrolling.{IsListAfter, IsOf, log_room}
+use Rattle.md_kept_members.specs.Enrolling.{IsListAfter, IsOf}
 use Rattle.md_kept_members.specs.View.{MemberView}
 use Rattle.md_model.specs.Content.{Content}
 use Rattle.md_state.specs.Members.{IsMember}
@@ -20,7 +20,7 @@ use Rattle.md_array.specs.Worlds.{AreHonest}
 use Rattle.md_copy.proofs.Failing.{HasGrown, grown_then}
 use Rattle.md_copy.specs.Rebuilt.{IsBesideCopied, IsRebuilt, IsServedThen}
 
--- a member is in sync as it was, with the same list and flags and as much room in its log, and its data stand where they stood
+-- a member is in sync as it was, with the same list and flags, and its data stand where they stood
 pub record IsAs (l n : MemberView) : Type 0 where
   pub in_sync : is_in_sync n.state ≡ is_in_sync l.state
   pub roles : (role : ℕ) → is_in_sync_as role n.state ≡ is_in_sync_as role l.state
@@ -28,7 +28,6 @@ pub record IsAs (l n : MemberView) : Type 0 where
   pub offset : n.superblock.data_offset ≡ l.superblock.data_offset
   pub flags : n.superblock.devflags ≡ l.superblock.devflags
   pub size : n.superblock.data_size ≡ l.superblock.data_size
-  pub room : log_room n.superblock ≡ log_room l.superblock
 
 pub record StartsAs (target : ℕ) (old v : MirrorView) : Type 0 where
   pub chunks : v.array.chunks ≡ old.array.chunks
@@ -48,7 +47,7 @@ pub starts_honest : (target : ℕ) (old v : MirrorView) → StartsAs target old 
 starts_honest target old v st honest j e at = (let d = st.disk_before j e at in st.honest j d.0 e d.1 at ∙ honest j d.0 d.1)
 
 as_on : (l m n : MemberView) → IsAs l m → IsAs m n → IsAs l n
-as_on l m n x y = record { in_sync = y.in_sync ∙ x.in_sync; roles = λ role. y.roles role ∙ x.roles role; bad = y.bad ∙ x.bad; offset = y.offset ∙ x.offset; flags = y.flags ∙ x.flags; size = y.size ∙ x.size; room = y.room ∙ x.room }
+as_on l m n x y = record { in_sync = y.in_sync ∙ x.in_sync; roles = λ role. y.roles role ∙ x.roles role; bad = y.bad ∙ x.bad; offset = y.offset ∙ x.offset; flags = y.flags ∙ x.flags; size = y.size ∙ x.size }
 
 -- by one step after another
 pub starts_on : (target : ℕ) (old mid v : MirrorView) → StartsAs target old mid → StartsAs target mid v → StartsAs target old v

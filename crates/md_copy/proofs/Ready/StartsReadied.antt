@@ -11,7 +11,6 @@ use Rattle.md_assembly.specs.States.{is_in_sync, is_in_sync_as, is_recovering, i
 use Rattle.md_bitmap.specs.declared.chunks.Chunks.{Chunks}
 use Rattle.md_bitmap.specs.Marks.{Bitmap, is_set}
 use Rattle.md_device.specs.Splice.{SameOutside, part}
-use Rattle.md_kept_members.specs.Enrolling.{log_room}
 use Rattle.md_kept_members.specs.Members.{made_due}
 use Rattle.md_kept_members.specs.TakingBack.{admitted_member}
 use Rattle.md_kept_members.specs.View.{MemberView}
@@ -29,9 +28,9 @@ use Rattle.md_array.proofs.General.Replaced.{of_set}
 use Rattle.md_array.proofs.Rebuilding.AdmitEvent.{admit_happens, admitted_at}
 use Rattle.md_metadata.specs.Storing.{AllStayReady, StaysReady}
 use Rattle.md_copy.specs.Table.Beginning.{MayBeginRebuild}
-use Rattle.md_copy.specs.Readying.Admission.{AdmitsFirst, Readies}
+use Rattle.md_copy.specs.Readying.{AdmitsFirst, Readies}
 use Rattle.md_copy.specs.Rebuilding.{BeginsRebuild}
-use Rattle.md_copy.specs.Readying.Storing.{StoresFirst}
+use Rattle.md_copy.specs.Storing.{StoresFirst}
 use Rattle.md_copy.proofs.Failing.{HasGrown, grown_same}
 use Rattle.md_copy.proofs.Held.HeldAlong.{between_of, content_stored, has_of, then_holds}
 use Rattle.md_copy.proofs.Ready.Lowered.{starts_lowered}
@@ -55,7 +54,6 @@ module _ (target : ℕ) (old v : MirrorView) (sound : IsConsistent old) (resynce
     offset = ap (λ (z : MemberView). z.superblock.data_offset) s.same;
     flags = ap (λ (z : MemberView). z.superblock.devflags) s.same;
     size = ap (λ (z : MemberView). z.superblock.data_size) s.same;
-    room = ap (λ (z : MemberView). log_room z.superblock) s.same;
   }
 
   member_stays : (j : ℕ) (l : MemberView) → IsMember old.array j l → (n : MemberView) × IsMember v.array j n × IsAs l n
@@ -136,10 +134,10 @@ module _ (target : ℕ) (v x : MirrorView) (sound : IsConsistent v) (resynced : 
       ap (λ (a : ArrayView). slice_get a.members j) r.array ∙ got_other (map made_due v.array.members) target j n other ∙ got_in_map made_due v.array.members j l at
 
   as_admitted : IsAs m n
-  as_admitted = record { in_sync = sym (spare_unsynced m.state spare); roles = λ role. sym (spare_unserving role m.state spare); bad = refl; offset = refl; flags = refl; size = refl; room = refl }
+  as_admitted = record { in_sync = sym (spare_unsynced m.state spare); roles = λ role. sym (spare_unserving role m.state spare); bad = refl; offset = refl; flags = refl; size = refl }
 
   as_due : (l : MemberView) → IsAs l (made_due l)
-  as_due l = record { in_sync = refl; roles = λ role. refl; bad = refl; offset = refl; flags = refl; size = refl; room = refl }
+  as_due l = record { in_sync = refl; roles = λ role. refl; bad = refl; offset = refl; flags = refl; size = refl }
 
   then_at : (j : ℕ) (l : MemberView) → IsMember v.array j l → (y : MemberView) × IsMember x.array j y × IsAs l y
   then_at j l at = elim (cases_eq j target) [

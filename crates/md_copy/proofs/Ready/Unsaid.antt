@@ -15,7 +15,7 @@ use Rattle.md_state.specs.Members.{IsMember}
 use Rattle.md_state.specs.Missing.{is_missing}
 use Rattle.md_state.specs.View.{ArrayView, MirrorView}
 use Rattle.md_metadata.specs.Storing.{StaysReady}
-use Rattle.md_copy.specs.Readying.Admission.{LowersTo}
+use Rattle.md_copy.specs.Readying.{LowersTo}
 use Rattle.md_copy.specs.Rebuilding.{BeginsRebuild}
 use Rattle.md_copy.proofs.Held.HeldRecorded.{first_low, unsaid_from}
 use Rattle.md_copy.proofs.Ready.Lowered.{lowered_there}

@@ -27,7 +27,7 @@ use Rattle.md_array.specs.Steps.Lend.{IsBesideChunk}
 use Rattle.md_array.specs.Steps.Record.{super_write}
 use Rattle.md_copy.specs.declared.beginning.fault.RebuildFault.{RebuildFault}
 use Rattle.md_copy.specs.declared.beginning.fault.RebuildFault.TheVariants.{MetadataFault}
-use Rattle.md_copy.specs.Passes.Filling.{CountsFailed, HaveFailedThere}
+use Rattle.md_copy.specs.Filling.{CountsFailed, HaveFailedThere}
 use Rattle.md_copy.specs.Rebuilt.{KeepStates, ListsGrow, OthersKeepData, failed_of}
 use Rattle.md_copy.specs.Refused.{Ending, EndsSo, HasEnded, HasMade, IsBesideLacking, StatesStay}
 use Rattle.md_copy.proofs.Failing.{HasGrown, grown_same, grown_then, there_still}

@@ -39,12 +39,12 @@ use Rattle.md_copy.specs.declared.beginning.fault.RebuildFault.{RebuildFault}
 use Rattle.md_copy.specs.declared.beginning.fault.RebuildFault.TheVariants.{Halted, NotSpare, Dirty, InFlight, LogFull, NoMemory, TargetFault, MetadataFault, EventsFull}
 use Rattle.md_copy.specs.Table.Orphans.{IsSubset, is_in}
 use Rattle.md_copy.specs.Table.Sources.{missing_chunks}
-use Rattle.md_copy.specs.Passes.Filling.{IsFilling}
-use Rattle.md_copy.specs.Ending.Leaving.{HasNone, RecordsAtEnd}
-use Rattle.md_copy.specs.Passes.Listing.{HasFailedSlot, ListsAll, NotesLists, EndsAtList}
-use Rattle.md_copy.specs.Passes.Passing.{AreListedPasses, CopiesAll, EndsBetween, FailsListing, LacksMemoryToPass, MakesPart, RecordsPass}
-use Rattle.md_copy.specs.Passes.Stretches.{AreRecorded, MayCopySlots, RecordsStretch, slots_after, slots_before}
-use Rattle.md_copy.specs.Ending.Enrolled.{LacksMemoryToEnrol, LacksOwnRoom}
+use Rattle.md_copy.specs.Filling.{IsFilling}
+use Rattle.md_copy.specs.Leaving.{HasNone, RecordsAtEnd}
+use Rattle.md_copy.specs.Listing.{HasFailedSlot, ListsAll, NotesLists, EndsAtList}
+use Rattle.md_copy.specs.Passing.{AreListedPasses, CopiesAll, EndsBetween, FailsListing, LacksMemoryToPass, MakesPart, RecordsPass}
+use Rattle.md_copy.specs.Stretches.{AreRecorded, MayCopySlots, RecordsStretch, slots_after, slots_before}
+use Rattle.md_copy.specs.Enrolled.{LacksMemoryToEnrol, LacksOwnRoom}
 use Rattle.md_copy.specs.Rebuilding.{BeginsRebuild, EndsFilled, EndsStoring, LacksMemoryToRebuild, LacksRoom, LosesTarget, RefusesAtOnce, RefusesRebuild}
 use Rattle.md_copy.specs.Rebuilt.{failed_of}
 use Rattle.md_copy.specs.Refused.{AreCopiedInPart, AreListed, Ending, EndsSo, HasEnded, HasHalted, HasMade, IsAdmitted, IsAsBefore, IsLost, IsRebuiltSoFar, IsListedOrFailed, IsRebuiltTo, KeepsDataBut, LacksOwnRoomFor, MakesAllPasses, IsBetweenPasses, IsWithinPass, HasOwnRoomFor, LacksRoomFor, ListsStand, ListsStandWithin, NotesSome, rebuilt_offset}

@@ -33,12 +33,12 @@ use Rattle.md_super.specs.declared.superblock.Superblock.{Superblock}
 use Rattle.md_metadata.specs.Storing.{IsStoring, StaysReady, Stores}
 use Rattle.md_copy.specs.Table.Beginning.{MayBeginRebuild}
 use Rattle.md_copy.specs.declared.beginning.fault.RebuildFault.TheVariants.{MetadataFault}
-use Rattle.md_copy.specs.Ending.Leaving.{RecordsAtEnd}
-use Rattle.md_copy.specs.Passes.Listing.{HaltsAtList, EndsAtList}
-use Rattle.md_copy.specs.Readying.Admission.{AdmitsAfter, FailsAdmission, LowersTarget}
+use Rattle.md_copy.specs.Leaving.{RecordsAtEnd}
+use Rattle.md_copy.specs.Listing.{HaltsAtList, EndsAtList}
+use Rattle.md_copy.specs.Readying.{AdmitsAfter, FailsAdmission, LowersTarget}
 use Rattle.md_copy.specs.Rebuilding.{BeginsRebuild}
 use Rattle.md_copy.specs.Refused.{IsLost}
-use Rattle.md_copy.specs.Readying.Storing.{FailsToRecordTarget, EndsAtOther}
+use Rattle.md_copy.specs.Storing.{FailsToRecordTarget, EndsAtOther}
 use Rattle.md_state.proofs.Stays.{stays_grown}
 use Rattle.md_copy.proofs.Failing.{grown_same, grown_then, none_there, there_since}
 use Rattle.md_copy.proofs.Refusals.Halting.{HaltsOn, halts_on, lasts_halted}

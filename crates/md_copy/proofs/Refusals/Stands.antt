@@ -18,9 +18,9 @@ use Rattle.md_array.specs.Consistency.{IsConsistent}
 use Rattle.md_array.specs.Steps.Enrol.{FailsToEnrolChunks}
 use Rattle.md_array.specs.ReadAsKept.{IsSuperOn}
 use Rattle.md_array.specs.Worlds.{is_listed}
-use Rattle.md_copy.specs.Passes.Filling.{IsFilling}
-use Rattle.md_copy.specs.Ending.Leaving.{RecordsAtEnd}
-use Rattle.md_copy.specs.Passes.Listing.{HasFailedSlot, HasListOn, NotesLists, EndsAtList}
+use Rattle.md_copy.specs.Filling.{IsFilling}
+use Rattle.md_copy.specs.Leaving.{RecordsAtEnd}
+use Rattle.md_copy.specs.Listing.{HasFailedSlot, HasListOn, NotesLists, EndsAtList}
 use Rattle.md_copy.specs.Refused.{HasListWithin, HasListed, IsListedOrFailed, ListsStand, ListsStandWithin}
 use Rattle.md_copy.proofs.Held.HeldRecorded.{other_is}
 

@@ -27,7 +27,7 @@ use Rattle.md_array.proofs.Rebuilding.OffsetMoved.{moved_is_consistent, set_agai
 use Rattle.md_array.proofs.StepLemmas.Lend.{back_is_consistent}
 use Rattle.md_array.proofs.StepLemmas.Record.{recorded_is_consistent}
 use Rattle.md_array.proofs.StepLemmas.RecordTarget.{rebuilt_recorded}
-use Rattle.md_copy.specs.Readying.Ready.{IsReadyToCopy}
+use Rattle.md_copy.specs.Ready.{IsReadyToCopy}
 use Rattle.md_copy.specs.RebuildEvents.{IsBeforeEnrol}
 use Rattle.md_copy.specs.Salvaging.Filling.{BreaksWithin, FillsWithin, IsBesideFilled, IsLeft, IsSameBesideSectors, IsTargetLeft}
 use Rattle.md_copy.proofs.Leads.RebuildLeads.{LeadsIn, one_leads}

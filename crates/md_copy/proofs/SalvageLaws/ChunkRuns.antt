@@ -11,7 +11,7 @@ use Rattle.md_state.specs.View.{ArrayView, MirrorView}
 use Rattle.md_array.specs.InTurn.{AllOf}
 use Rattle.md_array.specs.Steps.Checkpoint.{Checkpoints, checkpoint_event}
 use Rattle.md_array.proofs.StepLemmas.Turns.{all_on}
-use Rattle.md_copy.specs.Readying.Ready.{IsReadyToCopy}
+use Rattle.md_copy.specs.Ready.{IsReadyToCopy}
 use Rattle.md_copy.specs.Salvaging.Filling.{AreSalvaged, FillsChunk, FillsWithin, SalvagesChunk}
 use Rattle.md_copy.specs.Salvaging.SalvageEvents.{IsFillingTarget}
 use Rattle.md_copy.proofs.Held.HeldRecorded.{marks_is, unsaid_recorded}

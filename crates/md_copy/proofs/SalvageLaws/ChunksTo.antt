@@ -15,7 +15,7 @@ use Rattle.md_read.specs.Reading.{IsReadOfMember, NoneGives}
 use Rattle.md_state.specs.Members.{IsInSync, IsMember}
 use Rattle.md_state.specs.Missing.{is_missing}
 use Rattle.md_state.specs.View.{ArrayView, MirrorView}
-use Rattle.md_copy.specs.Readying.Ready.{IsReadyToCopy}
+use Rattle.md_copy.specs.Ready.{IsReadyToCopy}
 use Rattle.md_copy.specs.Salvaging.Filling.{AllAreFilled, AreSalvaged, FillsWithin, SalvagesAll, SalvagesChunk}
 use Rattle.md_copy.specs.Salvaging.Sectors.{AreSectorsHeld}
 use Rattle.md_copy.proofs.SalvageLaws.ChunkRuns.{GoesSoFar, ends_go}

@@ -21,7 +21,7 @@ use Rattle.md_state.specs.View.{ArrayView, Disk, MirrorView, of_disks}
 use Rattle.md_array.specs.Consistency.{IsConsistent}
 use Rattle.md_array.specs.Steps.Enrol.{KeepsData}
 use Rattle.md_array.proofs.General.Indices.{at_set_same, got_in_map, got_other}
-use Rattle.md_copy.specs.Passes.Listing.{StoresLists}
+use Rattle.md_copy.specs.Listing.{StoresLists}
 use Rattle.md_copy.specs.Salvaging.Losing.{EnrolsWithout, NotesLost, every_role}
 use Rattle.md_copy.proofs.Failing.{HasGrown, grown_by, grown_same, grown_then}
 use Rattle.md_copy.proofs.SalvageLaws.SalvageLeads.{ListsThem}

@@ -19,26 +19,27 @@ use Rattle.md_state.specs.Members.{IsInSync, IsMember}
 use Rattle.md_state.specs.Missing.{AreMissing, is_missing}
 use Rattle.md_state.specs.Steps.Checkpoint.{checked}
 use Rattle.md_state.specs.Steps.Enrol.{HasFullLog}
+use Rattle.md_state.specs.Steps.NoteBad.{HasFullLogForMore}
 use Rattle.md_state.specs.View.{ArrayView, MirrorView}
 use Rattle.md_state.proofs.Stays.{stays_grown}
 use Rattle.md_array.proofs.Worlds.States.{in_sync_recorded}
 use Rattle.md_array.specs.Consistency.{IsConsistent}
 use Rattle.md_array.specs.Steps.Enrol.{FailsToEnrol}
-use Rattle.md_copy.specs.Ending.Leaving.{LeavesSo, RecordsAtEnd}
-use Rattle.md_copy.specs.Passes.Listing.{EndsAtList}
-use Rattle.md_copy.specs.Passes.Passing.{RecordsPass}
-use Rattle.md_copy.specs.Readying.Admission.{RefusesToReady}
+use Rattle.md_copy.specs.Leaving.{LeavesSo, RecordsAtEnd}
+use Rattle.md_copy.specs.Listing.{EndsAtList}
+use Rattle.md_copy.specs.Passing.{RecordsPass}
+use Rattle.md_copy.specs.Readying.{RefusesToReady}
 use Rattle.md_copy.specs.Rebuilding.{BeginsRebuild, EndsStoring}
 use Rattle.md_copy.specs.Refused.{HasHalted, IsLost}
 use Rattle.md_copy.specs.Salvaging.Filling.{BreaksFilling, EndsAtChunk, FillsWithin, IsTargetLeft}
-use Rattle.md_copy.specs.Salvaging.Fitting.{HaveRoomFor, IsFitting, LacksRoomAt, LacksRoomForMore}
+use Rattle.md_copy.specs.Salvaging.Fitting.{HaveRoomFor, IsFitting, LacksRoomAt}
 use Rattle.md_copy.specs.Salvaging.Losing.{EndsNotingLost, EndsWithout, FailsWithout, NotesLost, every_role}
 use Rattle.md_copy.specs.Salvaging.Refused.{AreLostSoFar, EndsSalvageSo, HasNotSalvaged, ListsStay}
-use Rattle.md_copy.specs.Salvaging.Sectors.{AreLackedChunks, IsLacked}
+use Rattle.md_copy.specs.Salvaging.Sectors.{IsLacked}
 use Rattle.md_copy.specs.Salvaging.Steps.{CannotSalvage, EndsSalvageReadied, FailsWhole, FillsBut, RefusesSalvage}
 use Rattle.md_copy.specs.Salvaging.Widened.{IsWidened}
-use Rattle.md_copy.specs.Readying.Storing.{EndsAtOther}
-use Rattle.md_copy.specs.Passes.Stretches.{slots_before}
+use Rattle.md_copy.specs.Storing.{EndsAtOther}
+use Rattle.md_copy.specs.Stretches.{slots_before}
 use Rattle.md_copy.specs.Table.Sources.{missing_chunks}
 use Rattle.md_copy.specs.declared.beginning.fault.RebuildFault.{RebuildFault}
 use Rattle.md_copy.specs.declared.beginning.fault.RebuildFault.TheVariants.{Halted, NotSpare, Dirty, InFlight, LogFull, NoMemory, TargetFault, MetadataFault, EventsFull}
@@ -412,43 +413,32 @@ module _ (target : ℕ) where
             running = all_runs;
           }
 
-        lacked_chunks : AreLackedChunks old.array m missing
-        lacked_chunks =
-            let x = (filled_at listed).moves.pre in
-            let are = are_of fl.now fl.there in
-            record {
-              chunks = are.chunks ∙ ap (λ (q : Bitmap). q.chunks) x.marks;
-              lacked = λ c low set.
-                  (let early = subst (λ n. c < n) (sym (are.chunks ∙ ap (λ (q : Bitmap). q.chunks) x.marks)) low in
-                  x.missing m fl.now b.at fl.there c low (sym (are.bits c early) ∙ set));
-            }
-
         -- a log has no room, and nothing was listed
         module _ (k : ℕ) (lacks : LacksRoomAt target missing listed filled.array k) where
           no_room : HaveRoomFor target missing filled.array listed → ⊥
           no_room room = elim lacks [
             | inl own ↦ own.1.full (room.own own.1.member own.1.list own.1.at own.1.list_is)
-            | inr more ↦ more.full (room.in_sync k more.some more.member more.list more.in_sync more.list_is)
+            | inr more ↦ more.full (room.in_sync k more.member more.list more.in_sync more.list_is)
           ]
 
           wide : fits.gap ≡ 510
           wide = elim fits.fits [ inl gap ↦ gap | inr room ↦ absurd (no_room room) ]
 
           still_full : (after : Bitmap) (new : MirrorView) → RecordsAtEnd target after filled new
-              → ((k ≡ target) × ((missing : Bitmap) × AreLackedChunks old.array m missing × HasFullLog k (in_chunks_but old.array.chunks missing listed) (in_runs listed) new.array)) ⊎ LacksRoomForMore k new.array listed
+              → ((k ≡ target) × ((missing : Bitmap) × HasFullLog k (in_chunks_but old.array.chunks missing listed) (in_runs listed) new.array)) ⊎ HasFullLogForMore k (in_runs listed) new.array
           still_full after new leaves = elim lacks [
             | inl own ↦
                 let full = left_full target after filled new (in_chunks_but filled.array.chunks missing listed) (in_runs listed) go_f.ready.sound leaves own.1 in
                 let now : HasFullLog target (in_chunks_but old.array.chunks missing listed) (in_runs listed) new.array =
                 subst (λ (q : Chunks). HasFullLog target (in_chunks_but q missing listed) (in_runs listed) new.array) (filled_at listed).moves.pre.chunks full in
-                inl (own.0, (missing, lacked_chunks, subst (λ (j : ℕ). HasFullLog j (in_chunks_but old.array.chunks missing listed) (in_runs listed) new.array) (sym own.0) now))
+                inl (own.0, (missing, subst (λ (j : ℕ). HasFullLog j (in_chunks_but old.array.chunks missing listed) (in_runs listed) new.array) (sym own.0) now))
             | inr more ↦
                 let other : k ≢ target = λ same.
                 both_ways (is_in_sync more.member.state) (out_of_sync more.member.state (recovers more.member (ap (slice_get filled.array.members) (sym same) ∙ more.in_sync.member))) more.in_sync.in_sync in
                 inr (record {
-                  some = more.some;
+                  running = left_running target after filled new go_f.ready.goes.idle.running leaves;
                   member = more.member;
-                  in_sync = record { member = left_other target after filled new (λ running. go_f.ready.sound) leaves k other ∙ more.in_sync.member; in_sync = more.in_sync.in_sync };
+                  at = left_other target after filled new (λ running. go_f.ready.sound) leaves k other ∙ more.in_sync.member;
                   list = more.list;
                   list_is = more.list_is;
                   full = more.full;

@@ -14,9 +14,9 @@ use Rattle.md_array.proofs.Rebuilding.EnrolEvent.{enrol_leads}
 use Rattle.md_array.proofs.Rebuilding.EnrolUnstored.{idle_pending}
 use Rattle.md_metadata.specs.Storing.{IsStoring}
 use Rattle.md_metadata.proofs.Going.{recording_stores}
-use Rattle.md_copy.specs.Passes.Listing.{IsNoting, StoresLists}
+use Rattle.md_copy.specs.Listing.{IsNoting, StoresLists}
 use Rattle.md_copy.specs.PassLaws.Passes.{PassView, slots_of_pass}
-use Rattle.md_copy.specs.Passes.Passing.{RecordsPass}
+use Rattle.md_copy.specs.Passing.{RecordsPass}
 use Rattle.md_copy.specs.RebuildEvents.{AreListsStored, HaltsIn, IsBeforeEnrol, IsOfRebuild}
 use Rattle.md_copy.specs.Rebuilding.{BeginsRebuild}
 use Rattle.md_copy.specs.Rebuilt.{HaltsFrom}

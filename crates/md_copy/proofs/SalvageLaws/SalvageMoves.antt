@@ -18,12 +18,12 @@ use Rattle.md_array.specs.Consistency.{IsConsistent}
 use Rattle.md_array.specs.Steps.Checkpoint.{Checkpoints}
 use Rattle.md_array.specs.Steps.Enrol.{KeepsData}
 use Rattle.md_array.specs.Steps.Lend.{IsBesideMissing}
-use Rattle.md_copy.specs.Ending.Leaving.{RecordsAtEnd}
-use Rattle.md_copy.specs.Passes.Listing.{StoresLists}
-use Rattle.md_copy.specs.Passes.Passing.{RecordsPass}
-use Rattle.md_copy.specs.Passes.Filling.{IsFilling}
-use Rattle.md_copy.specs.Readying.Ready.{IsReadyToCopy}
-use Rattle.md_copy.specs.Passes.Stretches.{AreRecorded, MayCopySlots}
+use Rattle.md_copy.specs.Leaving.{RecordsAtEnd}
+use Rattle.md_copy.specs.Listing.{StoresLists}
+use Rattle.md_copy.specs.Passing.{RecordsPass}
+use Rattle.md_copy.specs.Filling.{IsFilling}
+use Rattle.md_copy.specs.Ready.{IsReadyToCopy}
+use Rattle.md_copy.specs.Stretches.{AreRecorded, MayCopySlots}
 use Rattle.md_cert.specs.declared.slots.Slot.{Slot}
 use Rattle.md_copy.specs.Rebuilding.{BeginsRebuild}
 use Rattle.md_copy.specs.Salvaging.Filling.{AreSalvaged, FillsWithin, IsTargetLeft, SalvagesChunk}

@@ -26,8 +26,8 @@ use Rattle.md_array.specs.Steps.Record.{super_write}
 use Rattle.md_array.proofs.General.Indices.{at_map, at_set_same, got_in_map, got_other}
 use Rattle.md_array.proofs.Rebuilding.MemberEnrolled.{holds_enrolled, lists_now}
 use Rattle.md_array.proofs.StepLemmas.Record.{listed_written}
-use Rattle.md_copy.specs.Passes.Filling.{CountsFailed, HaveFailedThere}
-use Rattle.md_copy.specs.Passes.Listing.{HasFailedSlot, StoresLists}
+use Rattle.md_copy.specs.Filling.{CountsFailed, HaveFailedThere}
+use Rattle.md_copy.specs.Listing.{HasFailedSlot, StoresLists}
 use Rattle.md_copy.specs.PassLaws.Listed.{IsArrayPass, MayServe}
 use Rattle.md_copy.specs.Rebuilding.{BeginsRebuild}
 use Rattle.md_copy.specs.Rebuilt.{KeepStates}

@@ -2,7 +2,6 @@
 use Rattle.std.proofs.Common.{◌≡◌, ◌≢◌, ◌∙◌, ◌⊎◌, ◌↔◌, ℕ, ◌+◌, ◌*◌, ◌/◌, ◌<◌, true, List, sym, ap, subst, arith, inl, inr}
 use Rattle.md_badblocks.specs.declared.run.Run.{Run}
 use Rattle.md_badblocks.specs.Runs.{IsBad}
-use Rattle.md_bitmap.specs.Marks.{Bitmap}
 use Rattle.md_bitmap.specs.declared.chunks.Chunks.{Chunks}
 use Rattle.md_bitmap.proofs.Limits.{div-lt-div_ceil}
 use Rattle.md_device.specs.Failing.{SomeNewFault, failed_read}
@@ -18,7 +17,6 @@ use Rattle.md_array.specs.Consistency.{IsConsistent}
 use Rattle.md_copy.specs.Salvaging.Salvaged.{IsBesideWritten, IsSalvaged, IsSectorServedThen}
 use Rattle.md_copy.specs.Salvaging.Sectors.{IsLacked}
 use Rattle.md_copy.proofs.Ready.StartedAs.{IsAs, StartsAs, starts_honest}
-use Rattle.md_copy.proofs.SalvageLemmas.SameRoom.{HasSameRoom, HaveSameRoom, fits_before}
 
 -- what no member in sync gives from then on none gives in all
 pub none_started : (target s : ℕ) (old v w : MirrorView) → StartsAs target old v → NoneGives s v w → NoneGives s old w
@@ -67,16 +65,6 @@ module _ (target : ℕ) (old v : MirrorView) (sound : IsConsistent old) (st : St
   lacked_before s lacks =
       let inside = subst (λ (q : Chunks). s < q.size) st.chunks lacks.inside in
       record { inside = inside; missing = sym (missing_same s inside) ∙ subst (λ (q : Chunks). is_missing v.array r.member (s / q.sectors) ≡ true) st.chunks lacks.missing }
-
-  room_of : (a n : MemberView) → IsAs a n → HasSameRoom a n
-  room_of a n x = record { in_sync = x.in_sync; bad = x.bad; offset = x.offset; room = x.room }
-
-  same_room : HaveSameRoom old.array v.array
-  same_room = record {
-    chunks = st.chunks;
-    then = λ k a at_a. (let x = st.then k a at_a in (x.0, x.1, room_of a x.0 x.2));
-    before = λ k n at_n. (let x = st.before k n at_n in (x.0, x.1, room_of x.0 n x.2));
-  }
 
   -- ---- who serves a sector did so
   served_before : (s : ℕ) → IsSectorServedThen target v.array y.array s → IsSectorServedThen target old.array y.array s
@@ -166,12 +154,10 @@ module _ (target : ℕ) (old v : MirrorView) (sound : IsConsistent old) (st : St
     lost_are = λ s bad. (let are = r.lost_are s bad in (lacked_before s are.0, none_started target s old v y st are.1));
     more = λ s bad. elim (r.more s bad) [ inl lost_one ↦ inl lost_one | inr gap ↦ inr (lacked_before s gap.0, gap.1) ];
     all = r.all;
+    filled = r.filled;
     missing = r.missing;
-    missing_are = record {
-      chunks = r.missing_are.chunks ∙ ap (λ (q : Bitmap). q.chunks) st.marks;
-      lacked = λ c low set. sym (st.missing l r.member was.1 r.at c low) ∙ r.missing_are.lacked c (subst (λ (q : Bitmap). c < q.chunks) (sym st.marks) low) set;
-    };
-    fits = fits_before target r.missing lost old.array v.array listed same_room r.fits;
+    lists_then = λ k a n at_a at_n. (let z = st.then k a at_a in r.lists_then k z.0 n z.1 at_n ∙ z.2.bad);
+    fits = r.fits;
     own = own_before;
     sources = sources_before;
     out = out_before;

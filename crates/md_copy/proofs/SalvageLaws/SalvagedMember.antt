@@ -48,7 +48,6 @@ use Rattle.md_copy.proofs.SalvageLaws.SectorsKept.{DevicesStay, IsAlike, Stays, 
 use Rattle.md_copy.proofs.SalvageLaws.SectorsLacked.{AreLossyClear, copied_missing, lossy_clear, missing_was}
 use Rattle.md_copy.proofs.SalvageLemmas.HeldSectors.{sectors_of_chunks}
 use Rattle.md_copy.proofs.SalvageLemmas.LeftSalvaged.{SalvagesTo}
-use Rattle.md_copy.proofs.SalvageLemmas.SameRoom.{HasSameRoom, HaveSameRoom, fits_before}
 use Rattle.md_copy.proofs.Stored.StoringKeeps.{KeepsAll}
 
 -- ---- tests
@@ -246,16 +245,6 @@ module _ (target : ℕ) (m : MemberView) (none : Bitmap) (v new : MirrorView) (t
             let missing = ap (is_missing f.array mf) here ∙ (lost_missing s bad).1 in
             both_ways (is_set h.missing.bytes c) free (missing_bit c (subst (λ n. c < n) en.missing_are.chunks low) ∙ missing)),
       )
-
-  room_of : (l n : MemberView) → IsAlike l n → HasSameRoom l n
-  room_of l n x = record { in_sync = ap is_in_sync x.state; bad = x.bad; offset = x.offset; room = x.room }
-
-  same_room : HaveSameRoom v.array f.array
-  same_room = record {
-    chunks = f_chunks;
-    then = λ k l at_l. (let x = stay.members.then k l at_l in (x.0, x.1, room_of l x.0 x.2));
-    before = λ k n at_n. (let x = stay.members.before k n at_n in (x.0, x.1, room_of x.0 n x.2));
-  }
 
   -- ---- what it holds
   pub held_at : (s : ℕ) → IsLacked v.array m s → (IsBad told.lost s → ⊥) → IsSectorHeld f target s
@@ -578,12 +567,11 @@ module _ (target : ℕ) (m : MemberView) (none : Bitmap) (v new : MirrorView) (t
           | inr gap ↦ inr (lacked_v s (listed_lacked s bad), (h.fits.gap, h.fits.widest, gap))
         ];
         all = lost_listed;
+        filled = f.array;
         missing = h.missing;
-        missing_are = record {
-          chunks = en.missing_are.chunks ∙ ap (λ (q : Bitmap). q.chunks) f_marks;
-          lacked = λ c low set. was_missing c (sym (missing_bit c (subst (λ (q : Bitmap). c < q.chunks) (sym f_marks) low)) ∙ set);
-        };
-        fits = fits_before target h.missing told.lost v.array f.array told.listed same_room h.fits;
+        lists_then = λ k l n at_l at_n.
+            (let z = stay.members.then k l at_l in ap (λ (q : MemberView). q.bad) (same_Some n z.0 (sym at_n ∙ z.1)) ∙ z.2.bad);
+        fits = h.fits;
         own = λ sector.
             subst (λ (runs : List Run). IsBad runs sector
             ↔ ((IsBad m.bad sector × ((s : ℕ) → IsLacked v.array m s → sector ≡ m.superblock.data_offset + s → ⊥)) ⊎ ((s : ℕ) × IsBad told.listed s × (sector ≡ m.superblock.data_offset + s))))

@@ -8,7 +8,6 @@ use Rattle.md_bitmap.specs.Marks.{Bitmap}
 use Rattle.md_cert.specs.declared.slots.Slot.{Slot}
 use Rattle.md_copy.specs.PassLaws.Passes.{PassView, slots_of_pass}
 use Rattle.md_device.specs.Splice.{part}
-use Rattle.md_kept_members.specs.Enrolling.{log_room}
 use Rattle.md_kept_members.specs.Members.{recorded_member}
 use Rattle.md_kept_members.specs.View.{MemberView}
 use Rattle.md_state.specs.Members.{IsMember}
@@ -17,21 +16,20 @@ use Rattle.md_state.specs.View.{ArrayView, Disk, MirrorView}
 use Rattle.md_array.specs.Consistency.{IsConsistent}
 use Rattle.md_array.specs.Steps.Checkpoint.{Checkpoints}
 use Rattle.md_array.specs.Steps.Enrol.{KeepsData}
-use Rattle.md_copy.specs.Passes.Passing.{RecordsPass}
+use Rattle.md_copy.specs.Passing.{RecordsPass}
 use Rattle.md_copy.specs.Salvaging.Filling.{AreSalvaged, FillsWithin, SalvagesChunk}
-use Rattle.md_copy.specs.Passes.Stretches.{AreRecorded, slots_after}
+use Rattle.md_copy.specs.Stretches.{AreRecorded, slots_after}
 use Rattle.md_copy.proofs.Failing.{HasGrown, grown_same, grown_then}
 use Rattle.md_copy.proofs.Held.HeldRecorded.{chunks_is, marks_is, other_is, recorded_is, target_same}
 use Rattle.md_copy.proofs.Passing.PassesKeep.{PassesKeep, pass_keeps}
 
 -- ---- members
--- A member is in its state, with its list and as much room in its log, and its data stand where they stood.
+-- A member is in its state, with its list, and its data stand where they stood.
 pub record IsAlike (m n : MemberView) : Type 0 where
   pub state : n.state ≡ m.state
   pub bad : n.bad ≡ m.bad
   pub offset : n.superblock.data_offset ≡ m.superblock.data_offset
   pub size : n.superblock.data_size ≡ m.superblock.data_size
-  pub room : log_room n.superblock ≡ log_room m.superblock
 
 pub alike_same : (m n : MemberView) → n ≡ m → IsAlike m n
 alike_same m n same = record {
@@ -39,11 +37,10 @@ alike_same m n same = record {
   bad = ap (λ (x : MemberView). x.bad) same;
   offset = ap (λ (x : MemberView). x.superblock.data_offset) same;
   size = ap (λ (x : MemberView). x.superblock.data_size) same;
-  room = ap (λ (x : MemberView). log_room x.superblock) same;
 }
 
 pub alike_on : (l m n : MemberView) → IsAlike l m → IsAlike m n → IsAlike l n
-alike_on l m n x y = record { state = y.state ∙ x.state; bad = y.bad ∙ x.bad; offset = y.offset ∙ x.offset; size = y.size ∙ x.size; room = y.room ∙ x.room }
+alike_on l m n x y = record { state = y.state ∙ x.state; bad = y.bad ∙ x.bad; offset = y.offset ∙ x.offset; size = y.size ∙ x.size }
 
 pub record MembersStay (old new : ArrayView) : Type 0 where
   pub chunks : new.chunks ≡ old.chunks
@@ -77,7 +74,6 @@ module _ (target : ℕ) (copied : Bitmap) (v w : MirrorView) (sound : IsConsiste
         bad = ap (λ (x : MemberView). x.bad) is;
         offset = ap (λ (x : MemberView). x.superblock.data_offset) is;
         size = ap (λ (x : MemberView). x.superblock.data_size) is;
-        room = ap (λ (x : MemberView). log_room x.superblock) is;
       }
 
   pub recorded_stay : MembersStay v.array w.array

@@ -17,7 +17,7 @@ use Rattle.md_state.specs.Steps.Checkpoint.{checked}
 use Rattle.md_state.specs.View.{ArrayView, MirrorView}
 use Rattle.md_array.proofs.Rebuilding.HeldContent.{chunk_unique}
 use Rattle.md_copy.specs.Salvaging.Filling.{AreSalvaged, FillsChunk}
-use Rattle.md_copy.specs.Passes.Stretches.{AreRecorded, RecordsStretch, slots_after, slots_before}
+use Rattle.md_copy.specs.Stretches.{AreRecorded, RecordsStretch, slots_after, slots_before}
 use Rattle.md_copy.proofs.Held.HeldRecorded.{lacked, recorded_is}
 use Rattle.md_copy.proofs.Passing.StretchSlots.{may_lack}
 use Rattle.md_copy.proofs.SalvageLaws.SectorsBeside.{chunks_stay}

@@ -20,13 +20,13 @@ use Rattle.md_array.proofs.Rebuilding.EnrolSpoils.{unenrol_leads}
 use Rattle.md_array.proofs.Rebuilding.PreparedEvent.{prepare_happens}
 use Rattle.md_array.proofs.StepLemmas.FailedParts.{halted_then}
 use Rattle.md_array.proofs.StepLemmas.Turns.{all_on}
-use Rattle.md_copy.specs.Ending.Leaving.{LeavesSo}
-use Rattle.md_copy.specs.Passes.Listing.{StoresLists}
+use Rattle.md_copy.specs.Leaving.{LeavesSo}
+use Rattle.md_copy.specs.Listing.{StoresLists}
 use Rattle.md_copy.specs.PassLaws.Passes.{PassView}
-use Rattle.md_copy.specs.Passes.Passing.{BreaksOffPass, FailsRecording, RecordsPass}
+use Rattle.md_copy.specs.Passing.{BreaksOffPass, FailsRecording, RecordsPass}
 use Rattle.md_copy.specs.RebuildEvents.{FailsAtMarks, LeadsOrHalts}
 use Rattle.md_copy.specs.Rebuilding.{BeginsRebuild, EndsStoring, LosesTarget, RefusesRebuild}
-use Rattle.md_copy.specs.Readying.Admission.{RefusesToReady}
+use Rattle.md_copy.specs.Readying.{RefusesToReady}
 use Rattle.md_copy.specs.Salvaging.Filling.{AreSalvaged, BreaksFilling, EndsAtChunk, FillsWithin, IsTargetLeft}
 use Rattle.md_copy.specs.Salvaging.Losing.{EndsNotingLost, EndsWithout, FailsWithout, NotesLost, NotesLostBelow, every_role}
 use Rattle.md_copy.specs.Salvaging.SalvageEvents.{LeadsUnsalvaged}

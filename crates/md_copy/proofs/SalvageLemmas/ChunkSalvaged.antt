@@ -8,7 +8,7 @@ use Rattle.md_bitmap.specs.Marks.{Bitmap, is_set}
 use Rattle.md_state.specs.View.{MirrorView}
 use Rattle.md_array.specs.Consistency.{IsConsistent}
 use Rattle.md_array.specs.Steps.Checkpoint.{Checkpoints}
-use Rattle.md_copy.specs.Readying.Ready.{IsReadyToCopy}
+use Rattle.md_copy.specs.Ready.{IsReadyToCopy}
 use Rattle.md_copy.specs.Salvaging.Filling.{BreaksFilling, FailsChunk, FailsToRecordChunk, FillsChunk, FillsSectors, IsTargetLeft, SalvagesChunk}
 use Rattle.md_copy.specs.Salvaging.Leaving.{MayLeaveSalvaged}
 use Rattle.md_copy.specs.Salvaging.Sectors.{AreSectorsHeld}

@@ -1,5 +1,5 @@
 -- Lost sectors are listed on all members in sync, and the target comes into sync without them, or it does not.
-use Rattle.std.proofs.Common.{◌≡◌, ◌≢◌, ◌∙◌, ◌⊎◌, ℕ, ◌/◌, ◌<◌, Bool, true, false, true≢false, not, ◌&&◌, nat_lt, List, [], Result, Ok, Err, MatchResult, refl, sym, ap, subst, arith, ltb-true, lt-ltb, inl, inr}
+use Rattle.std.proofs.Common.{◌≡◌, ◌∙◌, ◌⊎◌, ℕ, ◌/◌, ◌<◌, Bool, true, false, true≢false, not, ◌&&◌, nat_lt, List, [], Result, Ok, Err, MatchResult, refl, sym, ap, subst, arith, ltb-true, lt-ltb, inl, inr}
 use Rattle.std.specs.Prelude.{IfErr}
 use Rattle.std.proofs.lemmas.Bool.{and_from, and_parts, not-true}
 use Rattle.std.proofs.lemmas.Option.{same_Some, slice_get_within}
@@ -23,8 +23,8 @@ use Rattle.md_state.specs.Steps.WriteMember.{IsNotDue}
 use Rattle.md_state.specs.View.{MirrorView}
 use Rattle.md_copy.specs.declared.beginning.fault.RebuildFault.{RebuildFault}
 use Rattle.md_copy.specs.declared.beginning.fault.RebuildFault.TheVariants.{Halted, NotSpare, Dirty, InFlight, LogFull, NoMemory, TargetFault, MetadataFault, EventsFull}
-use Rattle.md_copy.specs.Passes.Listing.{EndsStoringLists, StoresLists}
-use Rattle.md_copy.specs.Readying.Ready.{IsReadyToCopy, IsRecordable}
+use Rattle.md_copy.specs.Listing.{EndsStoringLists, StoresLists}
+use Rattle.md_copy.specs.Ready.{IsReadyToCopy, IsRecordable}
 use Rattle.md_copy.specs.Salvaging.Filling.{AllAreFilled}
 use Rattle.md_copy.specs.Salvaging.Fitting.{FailsLook, HasOwnRoom, HaveRoomFor}
 use Rattle.md_copy.specs.Salvaging.Leaving.{MayLeaveSalvaged}
@@ -45,8 +45,8 @@ module _ (lost : List Run) (old noted new : MirrorView) where
 
 -- ---- the logs are looked at first
 -- The log of a member in sync that had room can't be full when its turn comes.
-noting_has_room : (target : ℕ) (missing : Bitmap) (lost : List Run) (v w : MirrorView) (k : ℕ) → HaveRoomFor target missing v.array lost → lost ≢ [] → EndsNotingLost lost v w (LogFull k) → ⊥
-noting_has_room target missing lost v w k room some n =
+noting_has_room : (target : ℕ) (missing : Bitmap) (lost : List Run) (v w : MirrorView) (k : ℕ) → HaveRoomFor target missing v.array lost → EndsNotingLost lost v w (LogFull k) → ⊥
+noting_has_room target missing lost v w k room n =
     let full = n.why.2 in
     let on = n.why.3 full.member full.at in
     let low = slice_get_within w.array.members n.index full.member full.at in
@@ -54,7 +54,7 @@ noting_has_room target missing lost v w k room some n =
     let z = got_within v.array.members n.index (omega (arith, low, many)) in
     let same : full.member ≡ z.0 = n.notes.rest n.index z.0 full.member (omega arith) z.1 full.at in
     let was : IsInSync v.array n.index z.0 = record { member = z.1; in_sync = ap (λ (q : MemberView). is_in_sync q.state) (sym same) ∙ on } in
-    full.full (subst (λ (q : MemberView). HasRoomFor q.superblock full.list) (sym same) (room.in_sync n.index some z.0 full.list was (subst (λ (q : MemberView). IsListMore (in_runs lost) q full.list) same full.list_is)))
+    full.full (subst (λ (q : MemberView). HasRoomFor q.superblock full.list) (sym same) (room.in_sync n.index z.0 full.list was (subst (λ (q : MemberView). IsListMore (in_runs lost) q full.list) same full.list_is)))
 
 -- one has no room, or memory is refused for the look
 pub looking_fails : (target : ℕ) (missing : Bitmap) (lost : List Run) (v : MirrorView) (fault : RebuildFault) → FailsLook target missing lost v.array fault → FailsWithout target missing lost v v fault
@@ -77,16 +77,16 @@ noted_recorded lost v w h recorded i y on =
     let same = (h.lists i x.0 y x.1 on.member).alone.same in
     ap (λ (z : MemberView). z.due) same ∙ recorded i x.0 (record { member = x.1; in_sync = sym (ap (λ (z : MemberView). is_in_sync z.state) same) ∙ on.in_sync })
 
-pub noting_ends : (lost : List Run) → lost ≢ [] → (old new : MirrorView) (fault : RebuildFault) → EndsNotingLost lost old new fault → EndsListingLost lost old new fault
-noting_ends lost some old new (LogFull k) h = (some, h)
-noting_ends lost some old new NoMemory h = h
-noting_ends lost some old new Halted h = absurd h.why
-noting_ends lost some old new NotSpare h = absurd h.why
-noting_ends lost some old new Dirty h = absurd h.why
-noting_ends lost some old new (InFlight n) h = absurd h.why
-noting_ends lost some old new TargetFault h = absurd h.why
-noting_ends lost some old new (MetadataFault k) h = absurd h.why
-noting_ends lost some old new EventsFull h = absurd h.why
+pub noting_ends : (lost : List Run) (old new : MirrorView) (fault : RebuildFault) → EndsNotingLost lost old new fault → EndsListingLost lost old new fault
+noting_ends lost old new (LogFull k) h = h
+noting_ends lost old new NoMemory h = h
+noting_ends lost old new Halted h = absurd h.why
+noting_ends lost old new NotSpare h = absurd h.why
+noting_ends lost old new Dirty h = absurd h.why
+noting_ends lost old new (InFlight n) h = absurd h.why
+noting_ends lost old new TargetFault h = absurd h.why
+noting_ends lost old new (MetadataFault k) h = absurd h.why
+noting_ends lost old new EventsFull h = absurd h.why
 
 -- ---- what holds then
 module _ (target : ℕ) (lost : List Run) (v w : MirrorView) where
@@ -241,7 +241,7 @@ module _ (target : ℕ) (missing : Bitmap) (lost : List Run) (v w : MirrorView) 
     comes_without room x (Err fault) h = refuses_lost room x fault h
 
   pub listing_fails : HaveRoomFor target missing v.array lost → (fault : RebuildFault) → EndsListingLost lost v w fault → FailsWithout target missing lost v w fault
-  listing_fails room (LogFull k) h = absurd (noting_has_room target missing lost v w k room h.0 h.1)
+  listing_fails room (LogFull k) h = absurd (noting_has_room target missing lost v w k room h)
   listing_fails room NoMemory h = inr (inl h)
   listing_fails room (MetadataFault k) h = h
   listing_fails room fault h = absurd h
@@ -255,7 +255,7 @@ module _ (target : ℕ) (missing : Bitmap) (lost : List Run) (v w : MirrorView) 
     )
 
     pub listing_leaves : (fault : RebuildFault) → EndsListingLost lost v w fault → MayLeaveSalvaged target copied w fault
-    listing_leaves (LogFull k) h = noting_leaves (LogFull k) h.1
+    listing_leaves (LogFull k) h = noting_leaves (LogFull k) h
     listing_leaves NoMemory h = noting_leaves NoMemory h
     listing_leaves (MetadataFault k) h =
         let g = noted_grows lost v h.0 h.1 in

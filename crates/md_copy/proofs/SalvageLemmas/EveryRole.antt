@@ -8,7 +8,7 @@ use Rattle.md_kept_members.specs.View.{MemberView}
 use Rattle.md_state.specs.InMemory.{HasRoles}
 use Rattle.md_state.specs.Members.{IsMember}
 use Rattle.md_state.specs.View.{ArrayView}
-use Rattle.md_copy.specs.Passes.Listing.{HasFailedSlot}
+use Rattle.md_copy.specs.Listing.{HasFailedSlot}
 use Rattle.md_copy.specs.Salvaging.Losing.{every_role}
 use Rattle.md_copy.proofs.Done.RebuiltMember.{role_of_sync}
 use Rattle.md_copy.proofs.Listings.ListsStored.{failed_in_sync}

@@ -11,7 +11,7 @@ use Rattle.md_state.specs.Members.{IsMember}
 use Rattle.md_state.specs.Rests.{Rests}
 use Rattle.md_state.specs.Steps.CopyData.{run_write}
 use Rattle.md_state.specs.View.{ArrayView, MirrorView}
-use Rattle.md_copy.specs.Readying.Ready.{IsReadyToCopy}
+use Rattle.md_copy.specs.Ready.{IsReadyToCopy}
 use Rattle.md_copy.specs.Salvaging.Filling.{BreaksWithin, FillsFront, FillsWithin, GivesFront}
 use Rattle.md_copy.specs.Salvaging.Putting.{FailsToPut, PutsRun}
 use Rattle.md_copy.specs.Salvaging.Sectors.{IsSectorHeld}

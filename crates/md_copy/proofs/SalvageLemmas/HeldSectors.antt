@@ -14,8 +14,8 @@ use Rattle.md_array.specs.Consistency.{IsConsistent}
 use Rattle.md_array.specs.Steps.Checkpoint.{MayCheckpoint}
 use Rattle.md_array.specs.Steps.Enrol.{HoldsContent, HoldsCopied}
 use Rattle.md_array.specs.Worlds.{AreHonest, is_listed}
-use Rattle.md_copy.specs.Passes.Held.{AreHeld, IsHeld}
-use Rattle.md_copy.specs.Readying.Ready.{IsRecordable}
+use Rattle.md_copy.specs.Held.{AreHeld, IsHeld}
+use Rattle.md_copy.specs.Ready.{IsRecordable}
 use Rattle.md_copy.specs.Salvaging.Sectors.{AreSectorsHeld, IsSectorHeld}
 use Rattle.md_copy.proofs.Held.Sectors.{same_sector}
 

@@ -16,7 +16,7 @@ use Rattle.md_state.specs.View.{ArrayView, MirrorView}
 use Rattle.md_array.specs.Steps.Checkpoint.{Checkpoints}
 use Rattle.md_array.proofs.Rebuilding.HeldContent.{chunk_unique, its_chunk}
 use Rattle.md_bitmap.proofs.Limits.{div-lt-div_ceil}
-use Rattle.md_copy.specs.Readying.Ready.{IsReadyToCopy}
+use Rattle.md_copy.specs.Ready.{IsReadyToCopy}
 use Rattle.md_copy.specs.Salvaging.Filling.{AllAreFilled, AreSalvaged, EndsAtChunk, FailsChunk, FillsChunk, LiesAmong, IsLeft, SalvagesAll, SalvagesChunk}
 use Rattle.md_copy.specs.Salvaging.Sectors.{AreSectorsHeld, IsSectorHeld}
 use Rattle.md_copy.specs.Table.Sources.{LacksChunk}

@@ -22,8 +22,8 @@ use Rattle.md_state.specs.Steps.MakeClean.{first_number}
 use Rattle.md_state.specs.View.{ArrayView, Disk, MirrorView}
 use Rattle.md_copy.specs.declared.beginning.fault.RebuildFault.{RebuildFault}
 use Rattle.md_copy.specs.declared.beginning.fault.RebuildFault.TheVariants.{MetadataFault}
-use Rattle.md_copy.specs.Passes.Listing.{ChangesListAlone, EndsStoringLists, StoresIfFailed, StoresLists, WritesMetadata}
-use Rattle.md_copy.specs.Readying.Ready.{IsReadyToCopy, MayRebuildOn}
+use Rattle.md_copy.specs.Listing.{ChangesListAlone, EndsStoringLists, StoresIfFailed, StoresLists, WritesMetadata}
+use Rattle.md_copy.specs.Ready.{IsReadyToCopy, MayRebuildOn}
 use Rattle.md_copy.specs.Salvaging.Filling.{AllAreFilled}
 use Rattle.md_copy.specs.Salvaging.Leaving.{MayLeaveSalvaged}
 use Rattle.md_copy.specs.Salvaging.Losing.{ListsToo, NotesLost, NotesLostBelow, every_role}

@@ -22,7 +22,7 @@ use Rattle.md_state.specs.Steps.NoteBad.{HasFullLogForMore}
 use Rattle.md_state.specs.View.{ArrayView, MirrorView}
 use Rattle.md_copy.specs.declared.beginning.fault.RebuildFault.{RebuildFault}
 use Rattle.md_copy.specs.declared.beginning.fault.RebuildFault.TheVariants.{Halted, NotSpare, Dirty, InFlight, LogFull, NoMemory, TargetFault, MetadataFault, EventsFull}
-use Rattle.md_copy.specs.Passes.Listing.{ChangesListAlone, FitsLog, IsNoting}
+use Rattle.md_copy.specs.Listing.{ChangesListAlone, FitsLog, IsNoting}
 use Rattle.md_copy.specs.Salvaging.Losing.{EndsNotingLost, ListsToo, NotesLost, NotesLostBelow, RefusesLost}
 use Rattle.md_copy.proofs.TableLemmas.Served.{in_sync_as}
 

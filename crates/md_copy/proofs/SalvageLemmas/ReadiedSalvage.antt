@@ -18,15 +18,15 @@ use Rattle.md_state.specs.View.{ArrayView, MirrorView}
 use Rattle.md_copy.specs.declared.beginning.fault.RebuildFault.{RebuildFault}
 use Rattle.md_copy.specs.declared.beginning.fault.RebuildFault.TheVariants.{NoMemory}
 use Rattle.md_copy.specs.declared.salvaging.salvaged.Salvaged.{Salvaged}
-use Rattle.md_copy.specs.Passes.Held.{AreHeld}
-use Rattle.md_copy.specs.Readying.Ready.{IsReadyToCopy, IsRecordable}
+use Rattle.md_copy.specs.Held.{AreHeld}
+use Rattle.md_copy.specs.Ready.{IsReadyToCopy, IsRecordable}
 use Rattle.md_copy.specs.Salvaging.Filling.{AllAreFilled, AreSalvaged, EndsSalvaging, SalvagesAll, SalvagesChunk}
 use Rattle.md_copy.specs.Salvaging.Fitting.{IsFitting}
 use Rattle.md_copy.specs.Salvaging.Losing.{EnrolsWithout, FailsWithout}
 use Rattle.md_copy.specs.Salvaging.Sectors.{AreSectorsHeld, IsLacked}
 use Rattle.md_copy.specs.Salvaging.Enrolling.{EndsSalvaged, EnrolsSalvaged, KeepsLacked}
 use Rattle.md_copy.specs.Salvaging.Steps.{EndsSalvageReadied, FillsBut, MakesWhole, SalvagesReadied}
-use Rattle.md_copy.specs.Readying.Storing.{StoresUntilDone}
+use Rattle.md_copy.specs.Storing.{StoresUntilDone}
 use Rattle.md_copy.specs.Table.Orphans.{IsSetOf}
 use Rattle.md_copy.specs.Table.Sources.{LacksChunk, missing_chunks}
 use Rattle.md_copy.proofs.Held.HeldChunks.{recordable}

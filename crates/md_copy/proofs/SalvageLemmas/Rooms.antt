@@ -1,5 +1,5 @@
 -- Lists that are made on trial: each is the only one of its sectors.
-use Rattle.std.proofs.Common.{◌≡◌, ◌≢◌, ◌∙◌, ◌↔◌, ℕ, ◌+◌, ◌<◌, ◌≤◌, Bool, true, false, leb, leb-true, le-leb, List, [], length, IfOk, MatchResult, Ok, Err, Result, sym, ap, subst, arith, inl, inr}
+use Rattle.std.proofs.Common.{◌≡◌, ◌∙◌, ◌↔◌, ℕ, ◌+◌, ◌<◌, ◌≤◌, Bool, true, false, leb, leb-true, le-leb, List, length, IfOk, MatchResult, Ok, Err, Result, sym, ap, subst, arith, inl, inr}
 use Rattle.std.proofs.lemmas.Bool.{both_ways, cases_eq}
 use Rattle.std.proofs.lemmas.Option.{same_Some, slice_get_within}
 use Rattle.md_assembly.specs.States.{is_in_sync}
@@ -35,21 +35,20 @@ module _ (a : ArrayView) (listed : List Run) (k : ℕ) (m : MemberView) (at : Is
 
   -- the member is not in sync
   pub room_out : is_in_sync m.state ≡ false → HasRoomIfInSync a listed k
-  room_out out some n list is more = absurd (both_ways (is_in_sync n.state) (ap (λ (x : MemberView). is_in_sync x.state) (same_member n is.member) ∙ out) is.in_sync)
+  room_out out n list is more = absurd (both_ways (is_in_sync n.state) (ap (λ (x : MemberView). is_in_sync x.state) (same_member n is.member) ∙ out) is.in_sync)
 
-  pub room_more : listed ≢ [] → is_in_sync m.state ≡ true → (list : List Run) → IsListMore (in_runs listed) m list → leb (entries_needed list) (log_room m.superblock) ≡ true ↔ HasRoomIfInSync a listed k
-  room_more some in_sync list made = (
-    λ yes there_are n other is more.
+  pub room_more : is_in_sync m.state ≡ true → (list : List Run) → IsListMore (in_runs listed) m list → leb (entries_needed list) (log_room m.superblock) ≡ true ↔ HasRoomIfInSync a listed k
+  room_more in_sync list made = (
+    λ yes n other is more.
         let fits : HasRoomFor m.superblock list = leb-true (entries_needed list) (log_room m.superblock) yes in
         let same = same_member n is.member in
         subst (λ (x : MemberView). HasRoomFor x.superblock other) (sym same)
         (subst (HasRoomFor m.superblock) (one_more (in_runs listed) m list other made (subst (λ (x : MemberView). IsListMore (in_runs listed) x other) same more)) fits),
-    λ has. le-leb (entries_needed list) (log_room m.superblock) (has some m list (record { member = at; in_sync = in_sync }) made),
+    λ has. le-leb (entries_needed list) (log_room m.superblock) (has m list (record { member = at; in_sync = in_sync }) made),
   )
 
-  pub full_more : listed ≢ [] → is_in_sync m.state ≡ true → (list : List Run) → IsListMore (in_runs listed) m list → leb (entries_needed list) (log_room m.superblock) ≡ false → LacksRoomForMore k a listed
-  full_more some in_sync list made short = record {
-    some = some;
+  pub full_more : is_in_sync m.state ≡ true → (list : List Run) → IsListMore (in_runs listed) m list → leb (entries_needed list) (log_room m.superblock) ≡ false → LacksRoomForMore k a listed
+  full_more in_sync list made short = record {
     member = m;
     in_sync = record { member = at; in_sync = in_sync };
     list = list;
@@ -87,7 +86,7 @@ pub rooms_more : (n : ℕ) (a : ArrayView) (listed : List Run) → HaveRoomBelow
 rooms_more n a listed before this k low = elim (cases_eq k n) [ inl here ↦ subst (HasRoomIfInSync a listed) (sym here) this | inr other ↦ before k (omega (arith, low, other)) ]
 
 pub rooms_all : (n : ℕ) (a : ArrayView) (listed : List Run) → length a.members ≤ n → HaveRoomBelow n a listed → (k : ℕ) → HasRoomIfInSync a listed k
-rooms_all n a listed all before k some m list is more = let low = slice_get_within a.members k m is.member in before k (omega (arith, low, all)) some m list is more
+rooms_all n a listed all before k m list is more = let low = slice_get_within a.members k m is.member in before k (omega (arith, low, all)) m list is more
 
 -- the target's log has room, and those of the members in sync are looked at
 pub looked : (target : ℕ) (missing : Bitmap) (listed : List Run) (a : ArrayView) → HasOwnRoom target missing a listed → {T : Type 0} (r : Result T RebuildFault)

@@ -10,8 +10,8 @@ use Rattle.md_state.specs.View.{ArrayView, MirrorView}
 use Rattle.md_copy.specs.PassLaws.Passes.{slots_of_pass}
 use Rattle.md_copy.specs.declared.beginning.fault.RebuildFault.{RebuildFault}
 use Rattle.md_copy.specs.declared.beginning.fault.RebuildFault.TheVariants.{LogFull, NoMemory, TargetFault, MetadataFault}
-use Rattle.md_copy.specs.Passes.Listing.{StoresLists}
-use Rattle.md_copy.specs.Passes.Passing.{MakesPart}
+use Rattle.md_copy.specs.Listing.{StoresLists}
+use Rattle.md_copy.specs.Passing.{MakesPart}
 use Rattle.md_copy.specs.Salvaging.Filling.{BreaksFilling, EndsSalvaging, FailsChunk}
 use Rattle.md_copy.specs.Salvaging.Losing.{FailsWithout, NotesLost, every_role}
 use Rattle.md_copy.specs.Salvaging.Steps.{EndsSalvageReadied, FailsWhole}

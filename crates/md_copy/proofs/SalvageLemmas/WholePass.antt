@@ -5,16 +5,16 @@ use Rattle.md_cert.specs.declared.table.Row.{Row}
 use Rattle.md_kept_members.specs.View.{MemberView}
 use Rattle.md_state.specs.Members.{IsMember}
 use Rattle.md_state.specs.View.{ArrayView, MirrorView}
-use Rattle.md_copy.specs.Ending.Leaving.{MayRecordAtEnd}
-use Rattle.md_copy.specs.Passes.Passing.{BreaksOffPass, FailsOne, FailsRecording, LacksMemoryToPass, MakesOne, RecordsPass}
-use Rattle.md_copy.specs.Readying.Ready.{IsReadyToCopy}
+use Rattle.md_copy.specs.Leaving.{MayRecordAtEnd}
+use Rattle.md_copy.specs.Passing.{BreaksOffPass, FailsOne, FailsRecording, LacksMemoryToPass, MakesOne, RecordsPass}
+use Rattle.md_copy.specs.Ready.{IsReadyToCopy}
 use Rattle.md_copy.specs.Salvaging.Leaving.{MayLeaveSalvaged}
 use Rattle.md_copy.specs.Salvaging.Steps.{CannotSalvage, FailsWhole, MakesWhole}
 use Rattle.md_copy.specs.Table.Beginning.{CannotRebuild, RefusesTable}
 use Rattle.md_copy.specs.Table.Sources.{IsTableOf}
 use Rattle.md_copy.specs.declared.beginning.fault.RebuildFault.{RebuildFault}
 use Rattle.md_copy.specs.declared.beginning.fault.RebuildFault.TheVariants.{Halted, NotSpare, Dirty, InFlight, LogFull, NoMemory, TargetFault, MetadataFault, EventsFull}
-use Rattle.md_copy.specs.declared.passes.all_passes.Passed.{Passed}
+use Rattle.md_copy.specs.declared.passes.Passed.{Passed}
 use Rattle.md_copy.proofs.Ready.Readied.{recovering_target}
 use Rattle.md_copy.proofs.SalvageLemmas.HeldSectors.{sectors_of_chunks}
 

@@ -13,13 +13,13 @@ use Rattle.md_copy.specs.declared.beginning.fault.RebuildFault.TheVariants.{Halt
 use Rattle.md_copy.specs.Table.Orphans.{IsSetOf}
 use Rattle.md_copy.specs.Table.Beginning.{CannotRebuild, MayBeginRebuild}
 use Rattle.md_copy.specs.declared.rebuilt.Rebuilt.{Rebuilt}
-use Rattle.md_copy.specs.Ending.Enrolled.{EnrolsCopied, FailsCopied, HasSets}
-use Rattle.md_copy.specs.Ending.Leaving.{LeavesSo}
-use Rattle.md_copy.specs.Passes.Passing.{EndsBetween, FailsListing, PassesAll, PassesFail}
-use Rattle.md_copy.specs.Readying.Ready.{IsReadyToCopy}
-use Rattle.md_copy.specs.Readying.Admission.{EndsAdmitted, FailsAdmission, LacksAdmission, LowersTarget, RefusesToReady}
+use Rattle.md_copy.specs.Enrolled.{EnrolsCopied, FailsCopied, HasSets}
+use Rattle.md_copy.specs.Leaving.{LeavesSo}
+use Rattle.md_copy.specs.Passing.{EndsBetween, FailsListing, PassesAll, PassesFail}
+use Rattle.md_copy.specs.Ready.{IsReadyToCopy}
+use Rattle.md_copy.specs.Readying.{EndsAdmitted, FailsAdmission, LacksAdmission, LowersTarget, RefusesToReady}
 use Rattle.md_copy.specs.Rebuilding.{BeginsRebuild, EndsReadied, EndsStoring, FillsBy, LacksMemoryToRebuild, LacksRoom, LosesSource, LosesTarget, Rebuilds, RebuildsReadied, RefusesRebuild, EndsAfterReady}
-use Rattle.md_copy.specs.Readying.Storing.{EndsAtOther, FailsToRecordTarget, StoresUntilDone}
+use Rattle.md_copy.specs.Storing.{EndsAtOther, FailsToRecordTarget, StoresUntilDone}
 use Rattle.md_copy.proofs.Passing.PassesLack.{all_lacks, orphans_same}
 
 -- ---- before anything is done

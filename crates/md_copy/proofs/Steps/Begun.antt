@@ -8,8 +8,8 @@ use Rattle.md_state.specs.View.{MirrorView}
 use Rattle.md_array.specs.Consistency.{IsConsistent}
 use Rattle.md_copy.specs.Table.Beginning.{MayBeginRebuild}
 use Rattle.md_copy.specs.Table.Orphans.{IsSetOf}
-use Rattle.md_copy.specs.Readying.Ready.{IsReadyToCopy}
-use Rattle.md_copy.specs.Readying.Admission.{LowersTarget, Readies}
+use Rattle.md_copy.specs.Ready.{IsReadyToCopy}
+use Rattle.md_copy.specs.Readying.{LowersTarget, Readies}
 use Rattle.md_copy.specs.Rebuilding.{BeginsRebuild}
 use Rattle.md_copy.proofs.Ready.Lowered.{lowered_sound, lowered_then, starts_lowered}
 use Rattle.md_copy.proofs.Ready.Readied.{is_ready, may_lowered}

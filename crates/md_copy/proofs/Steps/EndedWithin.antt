@@ -10,8 +10,8 @@ use Rattle.md_array.specs.Consistency.{IsConsistent}
 use Rattle.md_copy.specs.declared.beginning.fault.RebuildFault.{RebuildFault}
 use Rattle.md_copy.specs.declared.beginning.fault.RebuildFault.TheVariants.{Halted, NotSpare, Dirty, InFlight, LogFull, NoMemory, TargetFault, MetadataFault, EventsFull}
 use Rattle.md_copy.specs.Table.Sources.{missing_chunks}
-use Rattle.md_copy.specs.Passes.Listing.{EndsNoting}
-use Rattle.md_copy.specs.Passes.Passing.{CopiesAll, EndsBetween, FailsListing, LacksMemoryToPass, MakesPart}
+use Rattle.md_copy.specs.Listing.{EndsNoting}
+use Rattle.md_copy.specs.Passing.{CopiesAll, EndsBetween, FailsListing, LacksMemoryToPass, MakesPart}
 use Rattle.md_copy.specs.Rebuilding.{LacksMemoryToRebuild, LacksRoom, LosesTarget, EndsAfterReady}
 use Rattle.md_copy.proofs.Passing.PassesLack.{all_lacks, chain_lacks, pass_lacks, stretches_lack}
 

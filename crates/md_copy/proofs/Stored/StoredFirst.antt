@@ -31,7 +31,7 @@ use Rattle.md_metadata.proofs.StoredRecords.{other_due, other_or_stops}
 use Rattle.md_metadata.proofs.StoredSectors.{all_marks_last}
 use Rattle.md_copy.specs.declared.beginning.fault.RebuildFault.{RebuildFault}
 use Rattle.md_copy.specs.declared.beginning.fault.RebuildFault.TheVariants.{Halted, NotSpare, Dirty, InFlight, LogFull, NoMemory, TargetFault, MetadataFault, EventsFull}
-use Rattle.md_copy.specs.Readying.Storing.{FailsToRecordTarget, EndsAtOther, StoresFirst, StoringEnds}
+use Rattle.md_copy.specs.Storing.{FailsToRecordTarget, EndsAtOther, StoresFirst, StoringEnds}
 use Rattle.md_copy.proofs.Fills.LentBack.{rebuilt_out}
 
 -- ---- who is in sync once the mirror is halted

@@ -30,7 +30,7 @@ use Rattle.md_array.proofs.General.Replaced.{of_set}
 use Rattle.md_array.proofs.Worlds.Outside.{LiesIn, apart_from_part}
 use Rattle.md_metadata.specs.Going.{GoesOn, only_others}
 use Rattle.md_metadata.specs.Storing.{IsRecording, IsStoring}
-use Rattle.md_copy.specs.Readying.Storing.{StoresUntilDone}
+use Rattle.md_copy.specs.Storing.{StoresUntilDone}
 use Rattle.md_copy.proofs.Failing.{HasGrown, grown_same, grown_then}
 
 -- ---- where the parts of a member are

@@ -1,5 +1,5 @@
 -- Which sectors are listed so that each log has room for them (this project's own).
-use Rattle.std.specs.Prelude.{◌≡◌, ◌≢◌, ◌⊎◌, ℕ, ◌<◌, ◌≤◌, List, []}
+use Rattle.std.specs.Prelude.{◌≡◌, ◌⊎◌, ℕ, ◌<◌, ◌≤◌, List}
 use Rattle.md_badblocks.specs.declared.run.Run.{Run}
 use Rattle.md_bitmap.specs.Marks.{Bitmap}
 use Rattle.md_kept_members.specs.Enrolling.{HasRoomFor}
@@ -17,21 +17,18 @@ abbrev pub HasOwnRoom : ℕ → Bitmap → ArrayView → List Run → Type 0
 HasOwnRoom target missing a listed =
     (m : MemberView) (list : List Run) → IsMember a target m → IsListOf (in_chunks_but a.chunks missing listed) (in_runs listed) m list → HasRoomFor m.superblock list
 
--- The log of member k has room for its list with the listed sectors too, if the member is in sync and there are such sectors. Without them its list is
--- not stored, whatever room its log has.
+-- The log of member k has room for its list with the listed sectors too, if the member is in sync.
 abbrev pub HasRoomIfInSync : ArrayView → List Run → ℕ → Type 0
-HasRoomIfInSync a listed k =
-    listed ≢ [] → (m : MemberView) (list : List Run) → IsInSync a k m → IsListMore (in_runs listed) m list → HasRoomFor m.superblock list
+HasRoomIfInSync a listed k = (m : MemberView) (list : List Run) → IsInSync a k m → IsListMore (in_runs listed) m list → HasRoomFor m.superblock list
 
 -- The logs have room for lists with these sectors: that of the target, which lacks these chunks and gets all other sectors of them, and those of all
--- members in sync, if there are such sectors.
+-- members in sync.
 pub record HaveRoomFor (target : ℕ) (missing : Bitmap) (a : ArrayView) (listed : List Run) : Type 0 where
   pub own : HasOwnRoom target missing a listed
   pub in_sync : (k : ℕ) → HasRoomIfInSync a listed k
 
--- Member k is in sync, and its log has no room for its list with these sectors too, of which there are some.
+-- Member k is in sync, and its log has no room for its list with these sectors too.
 pub record LacksRoomForMore (k : ℕ) (a : ArrayView) (listed : List Run) : Type 0 where
-  pub some : listed ≢ []
   pub member : MemberView
   pub in_sync : IsInSync a k member
   pub list : List Run

@@ -3,7 +3,7 @@ use Rattle.std.specs.Prelude.{◌≡◌, ℕ, false}
 use Rattle.md_bitmap.specs.Marks.{Bitmap}
 use Rattle.md_state.specs.View.{MirrorView}
 use Rattle.md_array.specs.Consistency.{IsConsistent}
-use Rattle.md_copy.specs.Readying.Ready.{IsRecordable}
+use Rattle.md_copy.specs.Ready.{IsRecordable}
 use Rattle.md_copy.specs.Salvaging.Sectors.{AreSectorsHeld}
 use Rattle.md_copy.specs.declared.beginning.fault.RebuildFault.{RebuildFault}
 use Rattle.md_copy.specs.declared.beginning.fault.RebuildFault.TheVariants.{LogFull, MetadataFault, NoMemory}

@@ -1,5 +1,5 @@
 -- Sectors that no member in sync gives are listed on all of them, and the target comes into sync without them (this project's own).
-use Rattle.std.specs.Prelude.{◌≡◌, ◌≢◌, ◌⊎◌, ℕ, ◌<◌, ◌≤◌, Bool, true, List, [], map}
+use Rattle.std.specs.Prelude.{◌≡◌, ◌⊎◌, ℕ, ◌<◌, ◌≤◌, Bool, true, List, [], map}
 use Rattle.std.specs.List.{range_with_len}
 use Rattle.md_assembly.specs.States.{is_in_sync}
 use Rattle.md_badblocks.specs.declared.run.Run.{Run}
@@ -15,7 +15,7 @@ use Rattle.md_state.specs.Steps.NoteBad.{HasFullLogForMore}
 use Rattle.md_state.specs.View.{MirrorView}
 use Rattle.md_array.specs.Steps.Enrol.{Enrols, FailsToEnrol, MayEnrolSectors}
 use Rattle.md_copy.specs.Salvaging.Fitting.{LacksRoomAt}
-use Rattle.md_copy.specs.Passes.Listing.{ChangesListAlone, EndsStoringLists, HaveRoom, IsNoting, StoresLists}
+use Rattle.md_copy.specs.Listing.{ChangesListAlone, EndsStoringLists, HaveRoom, IsNoting, StoresLists}
 use Rattle.md_copy.specs.declared.beginning.fault.RebuildFault.{RebuildFault}
 use Rattle.md_copy.specs.declared.beginning.fault.RebuildFault.TheVariants.{LogFull, MetadataFault, NoMemory, TargetFault}
 
@@ -64,7 +64,7 @@ ListsLost lost old new = ((lost ≡ []) × (new ≡ old)) ⊎ ((noted : MirrorVi
 
 -- A log has no room, or memory is refused, while they are listed; or a list can't be stored.
 abbrev pub EndsListingLost : List Run → MirrorView → MirrorView → RebuildFault → Type 0
-EndsListingLost lost old new (LogFull k) = (lost ≢ []) × EndsNotingLost lost old new (LogFull k)
+EndsListingLost lost old new (LogFull k) = EndsNotingLost lost old new (LogFull k)
 EndsListingLost lost old new NoMemory = EndsNotingLost lost old new NoMemory
 EndsListingLost lost old new (MetadataFault k) = (noted : MirrorView) × NotesLost lost old noted × EndsStoringLists every_role noted new (MetadataFault k)
 EndsListingLost lost old new fault = ⊥
@@ -99,7 +99,7 @@ pub record EndsWithout (target : ℕ) (missing : Bitmap) (lost : List Run) (old 
   pub may : MayEnrolSectors target (in_chunks_but old.array.chunks missing lost) (in_runs lost) stored
   pub why : Why (in_chunks_but old.array.chunks missing lost) stored
 
--- The target's log has no room, or that of a member in sync which would have to list some, and nothing was listed or stored on any; memory is refused, for a look at the logs, which
+-- The target's log or that of a member in sync has no room, and nothing was listed or stored on any; memory is refused, for a look at the logs, which
 -- changes nothing, or later; a list can't be stored; or the target does not come into sync.
 abbrev pub FailsWithout : ℕ → Bitmap → List Run → MirrorView → MirrorView → RebuildFault → Type 0
 FailsWithout target missing lost old new (LogFull k) = (new ≡ old) × LacksRoomAt target missing lost old.array k

@@ -13,11 +13,11 @@ use Rattle.md_read.specs.Reading.{NoneGives}
 use Rattle.md_state.specs.DiskWrites.{AtDevice}
 use Rattle.md_state.specs.Members.{IsInSync, IsMember}
 use Rattle.md_state.specs.Steps.Enrol.{HasFullLog}
+use Rattle.md_state.specs.Steps.NoteBad.{HasFullLogForMore}
 use Rattle.md_state.specs.View.{ArrayView, Disk, MirrorView, of_disks}
 use Rattle.md_copy.specs.Refused.{HasHalted, IsBesideLacking, IsLost, IsNothingDone, OtherMembersKeep, StatesStay}
-use Rattle.md_copy.specs.Salvaging.Fitting.{LacksRoomForMore}
 use Rattle.md_copy.specs.Salvaging.Widened.{IsWidened}
-use Rattle.md_copy.specs.Salvaging.Sectors.{AreLackedChunks, IsLacked}
+use Rattle.md_copy.specs.Salvaging.Sectors.{IsLacked}
 use Rattle.md_copy.specs.declared.beginning.fault.RebuildFault.{RebuildFault}
 use Rattle.md_copy.specs.declared.beginning.fault.RebuildFault.TheVariants.{Halted, NotSpare, Dirty, InFlight, LogFull, NoMemory, TargetFault, MetadataFault, EventsFull}
 
@@ -48,16 +48,14 @@ abbrev pub ListsStay : ℕ → ArrayView → ArrayView → Type 0
 ListsStay target old new =
     (k : ℕ) (m n : MemberView) → k ≢ target → IsMember old k m → IsMember new k n → (sector : ℕ) → IsBad n.bad sector ↔ IsBad m.bad sector
 
--- The log of the target has no room for its list with what is to be listed, or that of member k, which is in sync and would have to list some, though all
--- gaps of up to 510 sectors are closed. That is found before anything is listed: the lists of all members are as they were, and by `LeadsUnlisted` no log
--- was written. (Where it is the target, nothing need be lost: a log that was read with a shift may have no room for what the target lists already. And a
--- list with fewer of the gaps might fit: to unite two long runs can cost an entry.)
-pub record LacksRoomForLost (target k : ℕ) (m : MemberView) (listed : List Run) (gap : ℕ) (old new : MirrorView) : Type 0 where
+-- The log of member k, the target or one in sync, has no room for its list with what is to be listed, though all gaps of up to 510 sectors are closed. That
+-- is found before anything is listed: the lists of all members are as they were. (Nothing need be lost: a log that was read with a shift may have no room
+-- for what the target lists already. And a list with fewer of the gaps might fit: to unite two long runs can cost an entry.)
+pub record LacksRoomForLost (target k : ℕ) (listed : List Run) (gap : ℕ) (old new : MirrorView) : Type 0 where
   pub running : new.array.halted ≡ false
   pub united : gap ≡ 510
   pub lists : ListsStay target old.array new.array
-  pub full : ((k ≡ target) × ((missing : Bitmap) × AreLackedChunks old.array m missing × HasFullLog k (in_chunks_but old.array.chunks missing listed) (in_runs listed) new.array))
-      ⊎ LacksRoomForMore k new.array listed
+  pub full : ((k ≡ target) × ((missing : Bitmap) × HasFullLog k (in_chunks_but old.array.chunks missing listed) (in_runs listed) new.array)) ⊎ HasFullLogForMore k (in_runs listed) new.array
 
 abbrev pub EndsSalvageSo : (target : ℕ) → RebuildFault → MemberView → (listed : List Run) → (gap : ℕ) → MirrorView → MirrorView → Type 0
 EndsSalvageSo target Halted m listed gap old new = IsNothingDone true old new
@@ -67,7 +65,7 @@ EndsSalvageSo target (InFlight number) m listed gap old new = IsNothingDone fals
 EndsSalvageSo target EventsFull m listed gap old new = IsNothingDone false old new
 EndsSalvageSo target TargetFault m listed gap old new = (new.array.halted ≡ false) × AtDevice target old.disks new.disks (CountsFailure of_disks)
 EndsSalvageSo target NoMemory m listed gap old new = new.array.halted ≡ false
-EndsSalvageSo target (LogFull k) m listed gap old new = LacksLog target k m old new ⊎ LacksRoomForLost target k m listed gap old new
+EndsSalvageSo target (LogFull k) m listed gap old new = LacksLog target k m old new ⊎ LacksRoomForLost target k listed gap old new
 EndsSalvageSo target (MetadataFault k) m listed gap old new = (k ≢ target) × (IsLost k old.array new.array ⊎ HasHalted k old new)
 
 -- Whatever the fault is: the target is in the state in which it was, or it was a spare and is recovering. How far it is rebuilt is no less than before, its

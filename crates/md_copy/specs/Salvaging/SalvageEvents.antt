@@ -1,10 +1,10 @@
 -- A salvage as a list of events of the array's model (this project's own).
 use Rattle.std.specs.Prelude.{◌≡◌, ◌≢◌, ◌⊎◌, ℕ, Bool, List, [], ◌∷◌, ◌++◌}
-use Rattle.md_model.specs.Events.{Event, MemberPart}
+use Rattle.md_model.specs.Events.{Event}
 use Rattle.md_state.specs.View.{MirrorView}
 use Rattle.md_array.specs.InTurn.{AllOf}
 use Rattle.md_metadata.specs.Storing.{IsStoring}
-use Rattle.md_copy.specs.Passes.Listing.{IsNoting}
+use Rattle.md_copy.specs.Listing.{IsNoting}
 use Rattle.md_copy.specs.RebuildEvents.{AreListsStored, AreOfAdmission, AreOfLowering, AreOfStretches, AreStored, IsListOfUnfinished, IsOfRebuild, IsOfUnfinished, LeadsOrHalts}
 
 -- A run of sectors is written to the target, or how far it is rebuilt is recorded.
@@ -46,20 +46,3 @@ pub record SalvageLeads (target : ℕ) (old new : MirrorView) : Type 0 where
 pub record LeadsUnsalvaged (target : ℕ) (old new : MirrorView) : Type 0 where
   pub goes : LeadsOrHalts (IsOfUnfinished target) old new
   pub list : IsListOfUnfinished target goes.leads.events
-
--- ---- a log has no room
--- Of the events of a salvage: no list changes by it, in memory or on a device.
-abbrev pub LeavesLists : Event → Type 0
-LeavesLists (Event.NoteBad k more) = ⊥
-LeavesLists (Event.StoreLog k listed) = ⊥
-LeavesLists (Event.WriteFails k MemberPart.Log) = ⊥
-LeavesLists (Event.Prepare k) = ⊥
-LeavesLists (Event.Enrol k role listed) = ⊥
-LeavesLists e = Unit {0}
-
--- A salvage for which a log has no room changes no list. Where the last write of its superblock failed, the target is spoiled.
-pub record LeadsUnlisted (target : ℕ) (old new : MirrorView) : Type 0 where
-  pub goes : LeadsOrHalts (IsOfUnfinished target) old new
-  pub last : goes.last ≡ new
-  pub list : IsListOfUnfinished target goes.leads.events
-  pub unlisted : AllOf LeavesLists goes.leads.events

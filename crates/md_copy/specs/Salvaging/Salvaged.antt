@@ -16,13 +16,13 @@ use Rattle.md_state.specs.Steps.CopyData.{Lists}
 use Rattle.md_state.specs.View.{ArrayView, Disk, MirrorView, of_disks}
 use Rattle.md_array.specs.Steps.Enrol.{HoldsContent}
 use Rattle.md_array.specs.Worlds.{AreHonest}
-use Rattle.md_copy.specs.Passes.Filling.{CountsFailed, HaveFailedThere}
-use Rattle.md_copy.specs.Passes.Listing.{HasListOn}
+use Rattle.md_copy.specs.Filling.{CountsFailed, HaveFailedThere}
+use Rattle.md_copy.specs.Listing.{HasListOn}
 use Rattle.md_copy.specs.PassLaws.Listed.{IsArrayPass}
 use Rattle.md_copy.specs.PassLaws.Passes.{PassView}
 use Rattle.md_copy.specs.Rebuilt.{HaltsTo, KeepStates, OthersKeepData, OwnListStored, RunsOrHalts}
 use Rattle.md_copy.specs.Salvaging.Fitting.{IsFitting}
-use Rattle.md_copy.specs.Salvaging.Sectors.{AreLackedChunks, IsLacked, bytes_of_sector}
+use Rattle.md_copy.specs.Salvaging.Sectors.{IsLacked, bytes_of_sector}
 use Rattle.md_copy.specs.Salvaging.United.{LiesInGap}
 use Rattle.md_copy.specs.declared.salvaging.salvaged.Salvaged.{Salvaged}
 use Rattle.md_copy.specs.Table.Sources.{missing_chunks}
@@ -64,10 +64,11 @@ pub record IsSalvaged (target : ℕ) (lost listed : List Run) (old new : MirrorV
   pub lost_are : (s : ℕ) → IsBad lost s → IsLacked old.array member s × NoneGives s old new
   pub more : (s : ℕ) → IsBad listed s → IsBad lost s ⊎ (IsLacked old.array member s × ((gap : ℕ) × (gap ≤ 510) × LiesInGap gap lost s))
   pub all : (s : ℕ) → IsBad lost s → IsBad listed s
-  -- more than the lost ones only where a log had no room, as the lists were before, and of the chunks that it lacked still then
+  -- more than the lost ones only where a log had no room, as the lists were before
+  pub filled : ArrayView
   pub missing : Bitmap
-  pub missing_are : AreLackedChunks old.array member missing
-  pub fits : IsFitting target missing lost old.array listed
+  pub lists_then : (k : ℕ) (m n : MemberView) → IsMember old.array k m → IsMember filled k n → n.bad ≡ m.bad
+  pub fits : IsFitting target missing lost filled listed
   -- ---- the lists
   pub own : (sector : ℕ) → IsBad now.bad sector
       ↔ ((IsBad member.bad sector × ((s : ℕ) → IsLacked old.array member s → sector ≡ member.superblock.data_offset + s → ⊥))

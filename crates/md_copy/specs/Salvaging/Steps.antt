@@ -10,15 +10,15 @@ use Rattle.md_state.specs.Members.{IsMember}
 use Rattle.md_state.specs.Missing.{AreMissing, is_missing}
 use Rattle.md_state.specs.View.{ArrayView, MirrorView}
 use Rattle.md_array.specs.Consistency.{IsConsistent}
-use Rattle.md_copy.specs.Ending.Leaving.{LeavesSo}
+use Rattle.md_copy.specs.Leaving.{LeavesSo}
 use Rattle.md_copy.specs.PassLaws.Passes.{PassView}
-use Rattle.md_copy.specs.Passes.Passing.{BreaksOffPass, FailsRecording, LacksMemoryToPass, RecordsPass}
-use Rattle.md_copy.specs.Readying.Admission.{RefusesToReady}
+use Rattle.md_copy.specs.Passing.{BreaksOffPass, FailsRecording, LacksMemoryToPass, RecordsPass}
+use Rattle.md_copy.specs.Readying.{RefusesToReady}
 use Rattle.md_copy.specs.Rebuilding.{BeginsRebuild, EndsStoring, LacksMemoryAtOnce}
 use Rattle.md_copy.specs.Salvaging.Filling.{EndsSalvaging, SalvagesAll}
 use Rattle.md_copy.specs.Salvaging.Fitting.{IsFitting}
 use Rattle.md_copy.specs.Salvaging.Losing.{EnrolsWithout, FailsWithout}
-use Rattle.md_copy.specs.Readying.Storing.{StoresUntilDone}
+use Rattle.md_copy.specs.Storing.{StoresUntilDone}
 use Rattle.md_copy.specs.declared.salvaging.salvaged.Salvaged.{Salvaged}
 use Rattle.md_copy.specs.declared.beginning.fault.RebuildFault.{RebuildFault}
 use Rattle.md_copy.specs.declared.beginning.fault.RebuildFault.TheVariants.{LogFull, NoMemory, TargetFault}

@@ -2,7 +2,7 @@
 //! every list of passes.
 //!
 //! Start with `PassesEnd` in `specs/PassLaws/Listed.antt`, which `passes_end` promises; what a pass is,
-//! `specs/PassLaws/Passes.antt` says. The proof of `copy_passes` goes by these laws:
+//! `specs/PassLaws/Passes.antt` says. The proof of the loop in `passes.rt` goes by these laws:
 //!
 //! ```
 //! use Rattle.md_copy.proofs.PassLemmas.ArrayPasses.{copies_add, passes_go_on}

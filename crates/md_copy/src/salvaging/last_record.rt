@@ -1,11 +1,11 @@
 // How far the target is rebuilt is recorded before a fault is answered.
 ghost use Rattle.std.specs.Prelude.{◌<◌, length};
 ghost use Rattle.md_array.specs.Consistency.{IsConsistent};
-ghost use Rattle.md_copy.specs.Ending.Leaving.{LeavesSo};
+ghost use Rattle.md_copy.specs.Leaving.{LeavesSo};
 ghost use Rattle.md_copy.specs.Salvaging.Leaving.{MayLeaveSalvaged};
 
 use crate::beginning::RebuildFault;
-use crate::ending::{forget, record};
+use crate::leave::{forget, record};
 use md_array::Mirror;
 use md_bitmap::Marks;
 use md_device::Device;

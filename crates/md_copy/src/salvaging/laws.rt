@@ -3,10 +3,9 @@ ghost use Rattle.std.specs.Prelude.{ℕ};
 ghost use Rattle.md_state.specs.View.{MirrorView};
 ghost use Rattle.md_array.specs.Consistency.{IsConsistent};
 ghost use Rattle.md_copy.specs.declared.beginning.fault.RebuildFault.{RebuildFault};
-ghost use Rattle.md_copy.specs.declared.beginning.fault.RebuildFault.TheVariants.{LogFull};
 ghost use Rattle.md_copy.specs.declared.salvaging.salvaged.Salvaged.{Salvaged};
 ghost use Rattle.md_copy.specs.Salvaging.Refused.{HasNotSalvaged};
-ghost use Rattle.md_copy.specs.Salvaging.SalvageEvents.{LeadsUnlisted, LeadsUnsalvaged, SalvageLeads};
+ghost use Rattle.md_copy.specs.Salvaging.SalvageEvents.{LeadsUnsalvaged, SalvageLeads};
 ghost use Rattle.md_copy.specs.Salvaging.Salvaged.{HasSalvaged};
 ghost use Rattle.md_copy.specs.Salvaging.Steps.{RefusesSalvage, Salvages};
 
@@ -20,13 +19,10 @@ pub fn salvaged_by_call()
 {}
 
 /// A salvage is a list of events of the array's model, of the kinds that a rebuild has, so that the laws over lives
-/// speak of it. One that is done has one enrolment in it; one that is refused has none. By one for which a log has no room
-/// no list of a member changes, in memory or on a device.
+/// speak of it. One that is done has one enrolment in it; one that is refused has none.
 pub fn salvage_events()
     ensures done { (target : ℕ) (told : Salvaged) (old new : MirrorView)
         → Salvages target told old new → SalvageLeads target old new }
     ensures refused { (target : ℕ) (old new : MirrorView) → IsConsistent old → IsConsistent new
         → (fault : RebuildFault) → RefusesSalvage target old new fault → LeadsUnsalvaged target old new }
-    ensures full { (target k : ℕ) (old new : MirrorView) → IsConsistent old → IsConsistent new
-        → RefusesSalvage target old new (LogFull k) → LeadsUnlisted target old new }
 {}

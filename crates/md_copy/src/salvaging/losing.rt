@@ -6,11 +6,11 @@ ghost use Rattle.md_array.specs.Steps.NoteBad.{AreSectorsOf, NoteSectorsHappens,
 ghost use Rattle.md_assembly.specs.States.{is_in_sync};
 ghost use Rattle.md_badblocks.specs.Runs.{IsBad};
 ghost use Rattle.md_bitmap.specs.Marks.{is_set};
-ghost use Rattle.md_copy.specs.Readying.Ready.{IsReadyToCopy};
+ghost use Rattle.md_copy.specs.Ready.{IsReadyToCopy};
 ghost use Rattle.md_copy.specs.Salvaging.Filling.{AllAreFilled};
 ghost use Rattle.md_copy.specs.Salvaging.Leaving.{MayLeaveSalvaged};
 ghost use Rattle.md_copy.specs.Salvaging.Widened.{IsNotListed};
-ghost use Rattle.md_copy.specs.Passes.Listing.{EndsStoringLists, HasFailedSlot, HaveRoom, StoresListIf, StoresLists};
+ghost use Rattle.md_copy.specs.Listing.{EndsStoringLists, HasFailedSlot, HaveRoom, StoresListIf, StoresLists};
 ghost use Rattle.md_copy.specs.Salvaging.Losing.{EndsListingLost, EndsNotingLost, EnrolsWithout, FailsWithout, ListsLost, NotesLost, RefusesLost, RefusesToEnrolLost, every_role};
 ghost use Rattle.md_copy.specs.Salvaging.Sectors.{AreSectorsHeld, IsLacked};
 ghost use Rattle.md_inflight.specs.Requests.Pending.{PendingView};
@@ -24,7 +24,7 @@ ghost use Rattle.md_state.specs.Steps.Rise.{HasSpentEvents};
 ghost use Rattle.md_state.specs.Steps.WriteMember.{IsNotDue};
 
 use crate::beginning::RebuildFault;
-use crate::salvaging::room::look_for_room;
+use crate::salvaging::looking::look_for_room;
 use md_array::{EnrolFault, Mirror, NoteFault};
 use md_badblocks::BadSet;
 use md_bitmap::Marks;

@@ -2,7 +2,7 @@
 ghost use Rattle.std.specs.Prelude.{◌≡◌, ◌<◌, ℕ, IfErr, IfOk, MatchResult, false, length};
 ghost use Rattle.md_array.specs.Consistency.{IsConsistent};
 ghost use Rattle.md_badblocks.specs.Runs.{IsBad};
-ghost use Rattle.md_copy.specs.Readying.Ready.{IsReadyToCopy};
+ghost use Rattle.md_copy.specs.Ready.{IsReadyToCopy};
 ghost use Rattle.md_copy.specs.Salvaging.Enrolling.{EndsSalvaged, EnrolsSalvaged};
 ghost use Rattle.md_copy.specs.Salvaging.Filling.{AllAreFilled};
 ghost use Rattle.md_copy.specs.Salvaging.Refused.{HasNotSalvaged};
@@ -16,15 +16,16 @@ ghost use Rattle.md_copy.specs.Table.Orphans.{IsSetOf};
 ghost use Rattle.md_state.specs.Members.{IsMember};
 
 use crate::beginning::{RebuildFault, check_rebuild, keep_missing, table};
-use crate::ending::store_until_done;
 use crate::passes::make_pass;
 use crate::readying::{lower_target, make_ready};
+use crate::salvaging::fitting::sectors_to_list;
 use crate::salvaging::last_record::leave_salvaged;
 use crate::salvaging::laws::salvaged_by_call;
+use crate::salvaging::left_chunks::salvage_left;
 use crate::salvaging::losing::enrol_without;
-use crate::salvaging::room::{sectors_to_list, unmark_listed};
 use crate::salvaging::salvaged::Salvaged;
-use crate::salvaging::sectors::salvage_left;
+use crate::salvaging::widening::unmark_listed;
+use crate::until_done::store_until_done;
 use md_array::Mirror;
 use md_badblocks::BadSet;
 use md_bitmap::Marks;
@@ -43,10 +44,9 @@ use std::thread::Threads;
 ///
 /// Where the log of one of them has no room for so many runs, good sectors that lie between two lost ones are listed
 /// too, on all of them, and count as lost from then on: all gaps of a width at once, the narrowest first, of up to 510
-/// sectors. Where that is not enough, `LogFull` names a member whose log has no room: the target, or where there is
-/// something to list, one in sync. It is found before anything is listed, so that all lists are as before, in memory and
-/// on the devices. The target is recovering then, and has what was copied. A target without a log can list none, and is
-/// refused at once.
+/// sectors. Where that is not enough, `LogFull` names a member whose log has no room. It is found before anything is
+/// listed, so that all lists are as before, in memory and on the devices. The target is recovering then, and has what
+/// was copied. A target without a log can list none, and is refused at once.
 pub fn salvage<D: Device + Drop + Send, G: Gate + Sync, R: Threads + Wait + Sync>(
     rt: &R,
     alloc: Global,

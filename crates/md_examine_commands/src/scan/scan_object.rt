@@ -5,7 +5,7 @@ ghost use Rattle.json.specs.Print.{quoted};
 ghost use Rattle.serde_json.specs.Written.{comma_if, compact_text};
 ghost use Rattle.md_assembly.specs.States.{role_of, state_of};
 ghost use Rattle.md_examine.specs.Sink.{PutsOrFails};
-ghost use Rattle.md_report.specs.AsJson.WholeArray.MemberObjects.{number_or_null};
+ghost use Rattle.md_report.specs.AsJson.MemberObjects.{number_or_null};
 ghost use Rattle.md_report.specs.AsJson.Objects.{elements_text, later_text, list_of, next_text, object_line, whole};
 ghost use Rattle.md_examine_commands.specs.ScanObject.{array_at_value, arrays_value, first_places, is_first_at, is_unseen_role, members_value, scan_array_object, scan_fields, scan_member_object, scan_member_object_in, scan_object, state_word, unseen_roles};
 ghost use Rattle.md_examine_commands.specs.ScanText.{decider, fresher, is_same_array};

@@ -5,7 +5,7 @@ use Rattle.serde_json.specs.Data.{Data, string}
 use Rattle.md_format.specs.Fields.{number_at}
 use Rattle.md_raw_reports.specs.LogFields.{entries_there}
 use Rattle.md_raw_reports.specs.declared.fields.Kind.TheVariants.{Byte, Half, Signed}
-use Rattle.md_report.specs.AsJson.WholeArray.MemberObjects.{number_or_null}
+use Rattle.md_report.specs.AsJson.MemberObjects.{number_or_null}
 use Rattle.md_report.specs.AsJson.Objects.{Field, field, list_of, object_of, report_of, whole}
 use Rattle.md_raw_reports.specs.RawJson.RawBitmap.{super_fault_fields}
 use Rattle.md_raw_reports.specs.RawJson.RawFields.{NamedRow, named_row, row_field}

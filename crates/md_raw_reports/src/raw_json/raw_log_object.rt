@@ -5,7 +5,7 @@ ghost use Rattle.serde_json.specs.Written.{comma_if, compact_text};
 ghost use Rattle.md_format.specs.Fields.{number_at};
 ghost use Rattle.md_raw_reports.specs.LogFields.{entries_there};
 ghost use Rattle.md_examine.specs.Sink.{PutsOrFails};
-ghost use Rattle.md_report.specs.AsJson.WholeArray.MemberObjects.{number_or_null};
+ghost use Rattle.md_report.specs.AsJson.MemberObjects.{number_or_null};
 ghost use Rattle.md_report.specs.AsJson.Objects.{elements_text, later_text, object_line, next_text};
 ghost use Rattle.md_raw_reports.specs.RawJson.RawFields.{row_field};
 ghost use Rattle.md_raw_reports.specs.RawJson.RawLog.{area_fields, entry_list, entry_object, is_entry, log_rows, entry_number, raw_log_object, shift_fields, shift_list, told_fields};

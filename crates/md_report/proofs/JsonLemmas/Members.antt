@@ -12,7 +12,7 @@ use Rattle.md_kept_members.specs.OwnFields.{is_write_mostly}
 use Rattle.md_kept_members.specs.View.{MemberView}
 use Rattle.md_state.specs.Missing.{is_re_added}
 use Rattle.md_state.specs.View.{ArrayView}
-use Rattle.md_report.specs.AsJson.WholeArray.MemberObjects.{image_value, member_items, member_object, member_texts, object_at, text_or_null, texts_of, word_or_null}
+use Rattle.md_report.specs.AsJson.MemberObjects.{image_value, member_items, member_object, member_texts, object_at, text_or_null, texts_of, word_or_null}
 
 after_the_first : (index : ℕ) → nat_lt 0 (index + 1) ≡ true
 after_the_first index = lt-ltb 0 (index + 1) (omega arith)

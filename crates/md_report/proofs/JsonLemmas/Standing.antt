@@ -9,9 +9,9 @@ use Rattle.serde_json.specs.Written.{comma_if, compact_text}
 use Rattle.md_badblocks.specs.declared.run.Run.{Run}
 use Rattle.md_assembly.specs.declared.state.MemberState.{MemberState}
 use Rattle.md_kept_members.specs.View.{MemberView}
-use Rattle.md_report.specs.AsJson.OneImage.BadblocksObject.{run_object}
+use Rattle.md_report.specs.AsJson.BadblocksObject.{run_object}
 use Rattle.md_report.specs.AsJson.Objects.{elements_text, list_of}
-use Rattle.md_report.specs.AsJson.WholeArray.StandingLists.{bad_value, holds_role, is_held}
+use Rattle.md_report.specs.AsJson.StandingLists.{bad_value, holds_role, is_held}
 use Rattle.md_report.proofs.JsonLemmas.Texts.{element_at, is_later}
 use Rattle.md_report.proofs.Members.{state_there, there}
 

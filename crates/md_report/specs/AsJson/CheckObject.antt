@@ -12,8 +12,8 @@ use Rattle.md_check.specs.declared.found.Comparison.{Comparison}
 use Rattle.md_check.specs.declared.found.Pair.{Pair}
 use Rattle.md_kept_members.specs.View.{MemberView}
 use Rattle.md_state.specs.View.{ArrayView}
-use Rattle.md_report.specs.AsJson.WholeArray.ArrayObjects.{members_fields}
-use Rattle.md_report.specs.AsJson.WholeArray.StandingLists.{bad_value}
+use Rattle.md_report.specs.AsJson.ArrayObjects.{members_fields}
+use Rattle.md_report.specs.AsJson.StandingLists.{bad_value}
 use Rattle.md_report.specs.AsJson.Objects.{Field, field, list_of, object_of, report_of, whole}
 
 -- The sectors of a chunk in the array.

@@ -1,7 +1,7 @@
 -- The object of a command that is refused: no report, but why there is none.
 use Rattle.std.specs.Prelude.{ℕ, List, [], ◌∷◌, Option, codes}
 use Rattle.serde_json.specs.Data.{Data, string}
-use Rattle.md_report.specs.AsJson.WholeArray.MemberObjects.{text_or_null}
+use Rattle.md_report.specs.AsJson.MemberObjects.{text_or_null}
 use Rattle.md_report.specs.AsJson.Objects.{Field, field, object_of}
 
 -- the line that tells of it, and what to do, where that is known

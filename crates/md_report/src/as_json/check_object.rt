@@ -7,14 +7,14 @@ ghost use Rattle.md_bitmap.specs.Marks.{is_set};
 ghost use Rattle.md_check.specs.Differences.{IsSized};
 ghost use Rattle.md_examine.specs.Sink.{PutsOrFails};
 ghost use Rattle.md_report.specs.AsJson.CheckObject.{check_object, chunk_list_fields, chunk_object, chunks_to, compared_fields, compared_to, count_fields, listed_fields, pair_value, pairs_in, run_of_chunk};
-ghost use Rattle.md_report.specs.AsJson.WholeArray.MemberObjects.{texts_of};
+ghost use Rattle.md_report.specs.AsJson.MemberObjects.{texts_of};
 ghost use Rattle.md_report.specs.AsJson.Objects.{elements_text, later_text, object_line, list_of, next_text, whole};
 
+use crate::as_json::member_objects::members;
+use crate::as_json::standing_lists::bad_sectors;
 use crate::as_json::values::{
     chosen_number, close, comma_if, next_key, next_number, number, open, open_number, stands_before,
 };
-use crate::as_json::whole_array::member_objects::members;
-use crate::as_json::whole_array::standing_lists::bad_sectors;
 use md_array::Mirror;
 use md_badblocks::Run;
 use md_bitmap::{Chunks, Marks};

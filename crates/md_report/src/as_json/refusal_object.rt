@@ -3,7 +3,7 @@ ghost use Rattle.std.specs.Prelude.{◌≡◌, ◌++◌, ◌∷◌, codes, optio
 ghost use Rattle.json.specs.Print.{quoted};
 ghost use Rattle.serde_json.specs.Written.{compact_text};
 ghost use Rattle.md_examine.specs.Sink.{PutsOrFails};
-ghost use Rattle.md_report.specs.AsJson.WholeArray.MemberObjects.{text_or_null};
+ghost use Rattle.md_report.specs.AsJson.MemberObjects.{text_or_null};
 ghost use Rattle.md_report.specs.AsJson.Objects.{key_text, next_text, object_line};
 ghost use Rattle.md_report.specs.AsJson.RefusalObject.{refusal_object};
 

@@ -10,14 +10,6 @@ use Rattle.md_faults.specs.declared.note_fault.NoteFault.TheVariants.{Halted, Lo
 use Rattle.md_state.specs.Members.{IsMember}
 use Rattle.md_state.specs.View.{ArrayView}
 
--- Member k lists these sectors of the array too, whatever room its log has. Nothing else changes.
-pub record ListsMore (k : ℕ) (more : ℕ → Bool) (old new : ArrayView) : Type 0 where
-  pub member : MemberView
-  pub at : IsMember old k member
-  pub list : List Run
-  pub list_is : IsListMore more member list
-  pub array : new ≡ record old { members = set old.members k (record member { bad = list }) }
-
 -- Member k may list these sectors of the array too, and this is its list then, for which its log has room.
 pub record MayNoteMore (k : ℕ) (more : ℕ → Bool) (a : ArrayView) (list : List Run) : Type 0 where
   pub running : a.halted ≡ false

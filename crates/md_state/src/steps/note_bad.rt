@@ -4,13 +4,13 @@ ghost use Rattle.std.specs.Int.{div_ceil};
 ghost use Rattle.md_kept_members.specs.View.{MemberView};
 ghost use Rattle.md_state.specs.Members.{IsMember};
 ghost use Rattle.md_kept_members.specs.SectorLists.{in_runs};
-ghost use Rattle.md_state.specs.Steps.NoteBad.{ListsMore, MayNote, MayNoteMore, NotesBad, NotesMore, RefusesNote, RefusesNoteMore, WhyMoreUnlisted, WhyUnlisted};
+ghost use Rattle.md_state.specs.Steps.NoteBad.{MayNote, MayNoteMore, NotesBad, NotesMore, RefusesNote, RefusesNoteMore, WhyMoreUnlisted, WhyUnlisted};
 
 use crate::array::Array;
 use md_badblocks::BadSet;
 use md_faults::NoteFault;
 use md_kept_members::{entries_with, list_with, list_with_sectors, log_room};
-use std::alloc::{AllocError, Global};
+use std::alloc::Global;
 
 impl Array {
     /// Member k lists the chunk as bad. `store_log` stores that. The fault is the first in the order of
@@ -37,22 +37,6 @@ impl Array {
         ensures { MatchResult result (λ _. NotesMore k (in_runs sectors.now) self.old self.new) (RefusesNoteMore k (in_runs sectors.now) self.old self.new) }
     {
         let list = self.list_noted_more(alloc, k, sectors)?;
-        self.set_list(k, list);
-        Ok(())
-    }
-
-    /// Member k regards these sectors of the array as bad too, whatever room its log has. The list is not to be
-    /// stored for that. Nothing is changed where memory is refused.
-    pub fn regard_as_bad(
-        &mut self,
-        alloc: Global,
-        k: usize,
-        sectors: &BadSet,
-    ) -> Result<(), AllocError>
-        requires { k < length self.old.members }
-        ensures { MatchResult result (λ _. ListsMore k (in_runs sectors.now) self.old self.new) (λ _. self.new ≡ self.old) }
-    {
-        let list = list_with_sectors(alloc, &self.members[k], sectors)?;
         self.set_list(k, list);
         Ok(())
     }

@@ -1,14 +1,12 @@
 // Images under the maps that words name.
 use crate::images::files::FileImages;
-use md_badblocks::BadSet;
 use md_cli::show_why;
 use md_commands::CommandFault;
 use md_examine::{Output, Sink, put_name};
 use md_files::{
-    LackingFault, MapFault, MapRefusal, MapText, MapWord, MapsFault, MaskedImages, map_advice,
-    map_list, mask_images, strange_command,
+    MapRefusal, MapText, MapWord, MapsFault, MaskedImages, map_advice, map_list, mask_images,
+    strange_command,
 };
-use md_images::ImageRefusal;
 use md_messages::{Messages, advise};
 use md_report::refusal_json;
 use md_words::Request;
@@ -25,12 +23,11 @@ const PROGRAM: &str = "mdcli: ";
 // So much of a map's own line is shown.
 const SHOWN: usize = 400;
 
-/// Images under maps, the texts of these, and what each image lacks by its map, in the order of the images.
+/// Images under maps, and the texts of these.
 #[derive(Drop)]
 pub struct Masked<'a> {
     pub images: MaskedImages<FileImages<'a>>,
     pub texts: Vec<MapText>,
-    pub lacking: Vec<BadSet>,
 }
 
 impl<'a> Masked<'a> {
@@ -39,7 +36,6 @@ impl<'a> Masked<'a> {
         Masked {
             images: MaskedImages::new(alloc, images),
             texts: Vec::new(alloc),
-            lacking: Vec::new(alloc),
         }
     }
 }
@@ -57,58 +53,13 @@ pub fn masked_images<'a, E: Write>(
     };
     let words = map_list(rt.alloc(), &request.images, &request.maps)?;
     let texts = map_texts(rt, &words)?;
-    let mut images = mask_images(rt.alloc(), images, &names, &texts)?;
-    let lacking = lacking_list(rt.alloc(), &mut images, &names, &texts)?;
+    let images = mask_images(rt.alloc(), images, &names, &texts)?;
     for (word, text) in request.maps.iter().zip(&texts) {
         if let Some(command) = strange_command(&names, text) {
             let _ = tell_strange(word, command, err);
         }
     }
-    Ok(Masked {
-        images,
-        texts,
-        lacking,
-    })
-}
-
-// What each image lacks by its map, once more: what is in a mask stays there. Where there are no maps the list is empty.
-fn lacking_list(
-    alloc: Global,
-    images: &mut MaskedImages<FileImages<'_>>,
-    names: &[&str],
-    texts: &[MapText],
-) -> Result<Vec<BadSet>, MapsFault> {
-    let mut list = Vec::new(alloc);
-    if texts.is_empty() {
-        return Ok(list);
-    }
-    for (image, name) in names.iter().enumerate() {
-        let missing = missing_in(alloc, images, image, name, texts)?;
-        if list.push(missing).is_err() {
-            return Err(MapsFault::NoMemory);
-        }
-    }
-    Ok(list)
-}
-
-fn missing_in(
-    alloc: Global,
-    images: &mut MaskedImages<FileImages<'_>>,
-    image: usize,
-    name: &str,
-    texts: &[MapText],
-) -> Result<BadSet, MapsFault> {
-    let Some(place) = texts.iter().position(|text| text.image == image) else {
-        return Ok(BadSet::new(alloc));
-    };
-    match images.lacking(name, texts[place].text.as_slice()) {
-        Ok(missing) => Ok(missing),
-        Err(LackingFault::Image(fault)) => {
-            Err(MapsFault::BadImage(image, ImageRefusal::Unopened(fault)))
-        }
-        Err(LackingFault::Map(MapFault::NoMemory)) => Err(MapsFault::NoMemory),
-        Err(LackingFault::Map(fault)) => Err(MapsFault::BadMap(place, MapRefusal::Map(fault))),
-    }
+    Ok(Masked { images, texts })
 }
 
 // The copy may have another name since, or the map be another's: who gave it knows.

@@ -11,9 +11,7 @@
 mod all_devices;
 mod files;
 mod maps;
-mod unlisted;
 
 pub use all_devices::{scan_all, scan_of_all};
 pub use files::FileImages;
 pub use maps::{Masked, masked_images, tell_refusal};
-pub use unlisted::{rebuilt_from, tell_unlisted};

@@ -8,8 +8,8 @@ use Rattle.md_messages.specs.Telling.{texts}
 use Rattle.md_messages.specs.Question.{question}
 use Rattle.md_cli.specs.Opened.{count, moves_device, opened_view}
 use Rattle.md_cli.specs.Streams.{streams_of}
-use Rattle.md_cli.proofs.Ended.{all_kept_then, lacking_as_many, opened_as_many, performs_then_asked}
-use Rattle.md_cli.proofs.Performed.{as_many_back, as_many_left, refused_back, room_back, room_left, shown_back, there_same, within_back, within_left}
+use Rattle.md_cli.proofs.Performed.{all_kept, as_many_back, as_many_left, performs_asked, refused_back, room_back, room_left, shown_back, there_same, within_back, within_left}
+use Rattle.md_cli.proofs.Worked.{refused_as_many}
 use Rattle.md_cli.proofs.devices.open_devices.Goals as goal
 
 pub let_go-requires-clause-room : goal.let_go-requires-clause-room
@@ -17,13 +17,12 @@ let_go-requires-clause-room g c =
     let d = g.D.Device in
     let ask = array_ask c.args.command in
     let names = texts c.args.names.now in
-    let lacking = c.args.session.now.lacking.now in
     let taken = c.take_beside-beside in
-    let new = c.perform_and_store-done.new.opened in
-    let mirror = c.in-Ok-open_lacking.mirror in
-    let many : length mirror.disks ≡ length taken.new.devices.items = opened_as_many _ c.args.session.now.lacking.now (map (disk_of d) taken.new.devices.items) mirror c.in-Ok-open_lacking.ensures.gives ∙ length-map taken.new.devices.items (disk_of d) in
-    let performs = performs_then_asked g.R.Source g.S.Sink names lacking (record { mirror = mirror; beside = option_map (disk_of d) taken.result }) (opened_view d new) (streams_of c.args.session.now) (streams_of c.perform_and_store-done.new.session) c.ask_first.new.asker c.perform_and_store-done.result ask c.perform_and_store-done.ensures.performs in
-    let back = all_kept_then g.R.Source g.S.Sink names lacking (record { mirror = mirror; beside = option_map (disk_of d) taken.result }) (opened_view d new) (streams_of c.args.session.now) (streams_of c.perform_and_store-done.new.session) ask c.perform_and_store-done.result (there_same (disk_of d) taken.result ∙ taken.ensures.brings) performs in
+    let new = c.perform-done.new.opened in
+    let mirror = c.in-Ok-open.mirror in
+    let many : length mirror.disks ≡ length taken.new.devices.items = c.in-Ok-open.ensures.gives.marked.same.as_many ∙ length-map taken.new.devices.items (disk_of d) in
+    let performs = performs_asked g.R.Source g.S.Sink names (record { mirror = mirror; beside = option_map (disk_of d) taken.result }) (opened_view d new) (streams_of c.args.session.now) (streams_of c.perform-done.new.session) c.ask_first.new.asker c.perform-done.result ask c.perform-done.ensures.performs in
+    let back = all_kept g.R.Source g.S.Sink names (record { mirror = mirror; beside = option_map (disk_of d) taken.result }) (opened_view d new) (streams_of c.args.session.now) (streams_of c.perform-done.new.session) ask c.perform-done.result (there_same (disk_of d) taken.result ∙ taken.ensures.brings) performs in
     let enough : moves_device ask ≡ true → length taken.new.devices.items + count taken.result ≤ vec_capacity c.in-Ok.list = λ moves. omega (arith, c.in-Ok.ensures.room moves, c.len.ensures, taken.ensures.as_many) in
     room_left d ask taken.new.devices.items taken.result new.beside mirror.disks new.mirror.disks many back _ enough
 
@@ -32,13 +31,12 @@ let_go-requires-clause-within g c =
     let d = g.D.Device in
     let ask = array_ask c.args.command in
     let names = texts c.args.names.now in
-    let lacking = c.args.session.now.lacking.now in
     let taken = c.take_beside-beside in
-    let new = c.perform_and_store-done.new.opened in
-    let mirror = c.in-Ok-open_lacking.mirror in
-    let many : length mirror.disks ≡ length taken.new.devices.items = opened_as_many _ c.args.session.now.lacking.now (map (disk_of d) taken.new.devices.items) mirror c.in-Ok-open_lacking.ensures.gives ∙ length-map taken.new.devices.items (disk_of d) in
-    let performs = performs_then_asked g.R.Source g.S.Sink names lacking (record { mirror = mirror; beside = option_map (disk_of d) taken.result }) (opened_view d new) (streams_of c.args.session.now) (streams_of c.perform_and_store-done.new.session) c.ask_first.new.asker c.perform_and_store-done.result ask c.perform_and_store-done.ensures.performs in
-    let back = all_kept_then g.R.Source g.S.Sink names lacking (record { mirror = mirror; beside = option_map (disk_of d) taken.result }) (opened_view d new) (streams_of c.args.session.now) (streams_of c.perform_and_store-done.new.session) ask c.perform_and_store-done.result (there_same (disk_of d) taken.result ∙ taken.ensures.brings) performs in
+    let new = c.perform-done.new.opened in
+    let mirror = c.in-Ok-open.mirror in
+    let many : length mirror.disks ≡ length taken.new.devices.items = c.in-Ok-open.ensures.gives.marked.same.as_many ∙ length-map taken.new.devices.items (disk_of d) in
+    let performs = performs_asked g.R.Source g.S.Sink names (record { mirror = mirror; beside = option_map (disk_of d) taken.result }) (opened_view d new) (streams_of c.args.session.now) (streams_of c.perform-done.new.session) c.ask_first.new.asker c.perform-done.result ask c.perform-done.ensures.performs in
+    let back = all_kept g.R.Source g.S.Sink names (record { mirror = mirror; beside = option_map (disk_of d) taken.result }) (opened_view d new) (streams_of c.args.session.now) (streams_of c.perform-done.new.session) ask c.perform-done.result (there_same (disk_of d) taken.result ∙ taken.ensures.brings) performs in
     within_left d ask taken.new.devices.items taken.result new.beside mirror.disks new.mirror.disks many back
 
 pub returns-in-Ok-ask_first-clause-as_many : goal.returns-in-Ok-ask_first-clause-as_many
@@ -46,13 +44,12 @@ returns-in-Ok-ask_first-clause-as_many g c =
     let d = g.D.Device in
     let ask = array_ask c.args.command in
     let names = texts c.args.names.now in
-    let lacking = c.args.session.now.lacking.now in
     let taken = c.take_beside-beside in
-    let new = c.perform_and_store-done.new.opened in
-    let mirror = c.in-Ok-open_lacking.mirror in
-    let many : length mirror.disks ≡ length taken.new.devices.items = opened_as_many _ c.args.session.now.lacking.now (map (disk_of d) taken.new.devices.items) mirror c.in-Ok-open_lacking.ensures.gives ∙ length-map taken.new.devices.items (disk_of d) in
-    let performs = performs_then_asked g.R.Source g.S.Sink names lacking (record { mirror = mirror; beside = option_map (disk_of d) taken.result }) (opened_view d new) (streams_of c.args.session.now) (streams_of c.perform_and_store-done.new.session) c.ask_first.new.asker c.perform_and_store-done.result ask c.perform_and_store-done.ensures.performs in
-    let back = all_kept_then g.R.Source g.S.Sink names lacking (record { mirror = mirror; beside = option_map (disk_of d) taken.result }) (opened_view d new) (streams_of c.args.session.now) (streams_of c.perform_and_store-done.new.session) ask c.perform_and_store-done.result (there_same (disk_of d) taken.result ∙ taken.ensures.brings) performs in
+    let new = c.perform-done.new.opened in
+    let mirror = c.in-Ok-open.mirror in
+    let many : length mirror.disks ≡ length taken.new.devices.items = c.in-Ok-open.ensures.gives.marked.same.as_many ∙ length-map taken.new.devices.items (disk_of d) in
+    let performs = performs_asked g.R.Source g.S.Sink names (record { mirror = mirror; beside = option_map (disk_of d) taken.result }) (opened_view d new) (streams_of c.args.session.now) (streams_of c.perform-done.new.session) c.ask_first.new.asker c.perform-done.result ask c.perform-done.ensures.performs in
+    let back = all_kept g.R.Source g.S.Sink names (record { mirror = mirror; beside = option_map (disk_of d) taken.result }) (opened_view d new) (streams_of c.args.session.now) (streams_of c.perform-done.new.session) ask c.perform-done.result (there_same (disk_of d) taken.result ∙ taken.ensures.brings) performs in
     as_many_left d ask taken.new.devices.items taken.result new.beside mirror.disks new.mirror.disks many back c.let_go.result.items c.let_go.ensures.all ∙ taken.ensures.as_many
 
 pub returns-in-Ok-ask_first-clause-gives : goal.returns-in-Ok-ask_first-clause-gives
@@ -60,13 +57,12 @@ returns-in-Ok-ask_first-clause-gives g c =
     let d = g.D.Device in
     let ask = array_ask c.args.command in
     let names = texts c.args.names.now in
-    let lacking = c.args.session.now.lacking.now in
     let taken = c.take_beside-beside in
-    let new = c.perform_and_store-done.new.opened in
-    let mirror = c.in-Ok-open_lacking.mirror in
-    let many : length mirror.disks ≡ length taken.new.devices.items = opened_as_many _ c.args.session.now.lacking.now (map (disk_of d) taken.new.devices.items) mirror c.in-Ok-open_lacking.ensures.gives ∙ length-map taken.new.devices.items (disk_of d) in
-    let performs = performs_then_asked g.R.Source g.S.Sink names lacking (record { mirror = mirror; beside = option_map (disk_of d) taken.result }) (opened_view d new) (streams_of c.args.session.now) (streams_of c.perform_and_store-done.new.session) c.ask_first.new.asker c.perform_and_store-done.result ask c.perform_and_store-done.ensures.performs in
-    let back = all_kept_then g.R.Source g.S.Sink names lacking (record { mirror = mirror; beside = option_map (disk_of d) taken.result }) (opened_view d new) (streams_of c.args.session.now) (streams_of c.perform_and_store-done.new.session) ask c.perform_and_store-done.result (there_same (disk_of d) taken.result ∙ taken.ensures.brings) performs in
+    let new = c.perform-done.new.opened in
+    let mirror = c.in-Ok-open.mirror in
+    let many : length mirror.disks ≡ length taken.new.devices.items = c.in-Ok-open.ensures.gives.marked.same.as_many ∙ length-map taken.new.devices.items (disk_of d) in
+    let performs = performs_asked g.R.Source g.S.Sink names (record { mirror = mirror; beside = option_map (disk_of d) taken.result }) (opened_view d new) (streams_of c.args.session.now) (streams_of c.perform-done.new.session) c.ask_first.new.asker c.perform-done.result ask c.perform-done.ensures.performs in
+    let back = all_kept g.R.Source g.S.Sink names (record { mirror = mirror; beside = option_map (disk_of d) taken.result }) (opened_view d new) (streams_of c.args.session.now) (streams_of c.perform-done.new.session) ask c.perform-done.result (there_same (disk_of d) taken.result ∙ taken.ensures.brings) performs in
     inl (record {
       members = map (disk_of d) taken.new.devices.items;
       device = taken.ensures.takes.device;
@@ -77,15 +73,15 @@ returns-in-Ok-ask_first-clause-gives g c =
       looks = taken.ensures.takes.looks;
       done = inl (record {
         opened = mirror;
-        opens = c.in-Ok-open_lacking.ensures.gives;
+        opens = c.in-Ok-open.ensures.gives;
         first = c.note.new.self;
         noted = c.note.ensures;
         left = opened_view d new;
         performs = inl (record {
-          agreed = subst (λ asker. question g.A.Asker ask names c.note.new.self c.args.session.now.asker asker (Ok tt)) (sym c.perform_and_store-done.ensures.unasked) c.in-Ok-ask_first.ensures;
+          agreed = subst (λ asker. question g.A.Asker ask names c.note.new.self c.args.session.now.asker asker (Ok tt)) (sym c.perform-done.ensures.unasked) c.in-Ok-ask_first.ensures;
           performs = performs;
-          noted = c.perform_and_store-done.ensures.noted;
-          counted = c.perform_and_store-done.ensures.counted;
+          noted = c.perform-done.ensures.noted;
+          counted = c.perform-done.ensures.counted;
         });
         dropped = c.let_go.ensures.dropped ∙ ap (λ (left : Bool). with_dropped ask new.mirror.array left c.note.new.self) (sym (there_same (disk_of d) new.beside));
         devices = c.let_go.ensures.all;
@@ -98,10 +94,9 @@ let_go-requires-in-Err-ask_first-clause-room g c =
     let d = g.D.Device in
     let ask = array_ask c.args.command in
     let names = texts c.args.names.now in
-    let lacking = c.args.session.now.lacking.now in
     let taken = c.take_beside-beside in
-    let mirror = c.in-Ok-open_lacking.mirror in
-    let many : length mirror.disks ≡ length taken.new.devices.items = opened_as_many _ c.args.session.now.lacking.now (map (disk_of d) taken.new.devices.items) mirror c.in-Ok-open_lacking.ensures.gives ∙ length-map taken.new.devices.items (disk_of d) in
+    let mirror = c.in-Ok-open.mirror in
+    let many : length mirror.disks ≡ length taken.new.devices.items = c.in-Ok-open.ensures.gives.marked.same.as_many ∙ length-map taken.new.devices.items (disk_of d) in
     let back = refused_back ask mirror.disks mirror.disks (option_map (disk_of d) taken.result) (there_same (disk_of d) taken.result ∙ taken.ensures.brings) refl in
     let enough : moves_device ask ≡ true → length taken.new.devices.items + count taken.result ≤ vec_capacity c.in-Ok.list = λ moves. omega (arith, c.in-Ok.ensures.room moves, c.len.ensures, taken.ensures.as_many) in
     room_left d ask taken.new.devices.items taken.result taken.result mirror.disks mirror.disks many back _ enough
@@ -111,10 +106,9 @@ let_go-requires-in-Err-ask_first-clause-within g c =
     let d = g.D.Device in
     let ask = array_ask c.args.command in
     let names = texts c.args.names.now in
-    let lacking = c.args.session.now.lacking.now in
     let taken = c.take_beside-beside in
-    let mirror = c.in-Ok-open_lacking.mirror in
-    let many : length mirror.disks ≡ length taken.new.devices.items = opened_as_many _ c.args.session.now.lacking.now (map (disk_of d) taken.new.devices.items) mirror c.in-Ok-open_lacking.ensures.gives ∙ length-map taken.new.devices.items (disk_of d) in
+    let mirror = c.in-Ok-open.mirror in
+    let many : length mirror.disks ≡ length taken.new.devices.items = c.in-Ok-open.ensures.gives.marked.same.as_many ∙ length-map taken.new.devices.items (disk_of d) in
     let back = refused_back ask mirror.disks mirror.disks (option_map (disk_of d) taken.result) (there_same (disk_of d) taken.result ∙ taken.ensures.brings) refl in
     within_left d ask taken.new.devices.items taken.result taken.result mirror.disks mirror.disks many back
 
@@ -123,10 +117,9 @@ returns-in-Err-ask_first-clause-as_many g c =
     let d = g.D.Device in
     let ask = array_ask c.args.command in
     let names = texts c.args.names.now in
-    let lacking = c.args.session.now.lacking.now in
     let taken = c.take_beside-beside in
-    let mirror = c.in-Ok-open_lacking.mirror in
-    let many : length mirror.disks ≡ length taken.new.devices.items = opened_as_many _ c.args.session.now.lacking.now (map (disk_of d) taken.new.devices.items) mirror c.in-Ok-open_lacking.ensures.gives ∙ length-map taken.new.devices.items (disk_of d) in
+    let mirror = c.in-Ok-open.mirror in
+    let many : length mirror.disks ≡ length taken.new.devices.items = c.in-Ok-open.ensures.gives.marked.same.as_many ∙ length-map taken.new.devices.items (disk_of d) in
     let back = refused_back ask mirror.disks mirror.disks (option_map (disk_of d) taken.result) (there_same (disk_of d) taken.result ∙ taken.ensures.brings) refl in
     as_many_left d ask taken.new.devices.items taken.result taken.result mirror.disks mirror.disks many back c.let_go-in-Err-ask_first.result.items c.let_go-in-Err-ask_first.ensures.all ∙ taken.ensures.as_many
 
@@ -135,10 +128,9 @@ returns-in-Err-ask_first-clause-gives g c =
     let d = g.D.Device in
     let ask = array_ask c.args.command in
     let names = texts c.args.names.now in
-    let lacking = c.args.session.now.lacking.now in
     let taken = c.take_beside-beside in
-    let mirror = c.in-Ok-open_lacking.mirror in
-    let many : length mirror.disks ≡ length taken.new.devices.items = opened_as_many _ c.args.session.now.lacking.now (map (disk_of d) taken.new.devices.items) mirror c.in-Ok-open_lacking.ensures.gives ∙ length-map taken.new.devices.items (disk_of d) in
+    let mirror = c.in-Ok-open.mirror in
+    let many : length mirror.disks ≡ length taken.new.devices.items = c.in-Ok-open.ensures.gives.marked.same.as_many ∙ length-map taken.new.devices.items (disk_of d) in
     let back = refused_back ask mirror.disks mirror.disks (option_map (disk_of d) taken.result) (there_same (disk_of d) taken.result ∙ taken.ensures.brings) refl in
     inl (record {
       members = map (disk_of d) taken.new.devices.items;
@@ -150,7 +142,7 @@ returns-in-Err-ask_first-clause-gives g c =
       looks = taken.ensures.takes.looks;
       done = inl (record {
         opened = mirror;
-        opens = c.in-Ok-open_lacking.ensures.gives;
+        opens = c.in-Ok-open.ensures.gives;
         first = c.note.new.self;
         noted = c.note.ensures;
         left = record { mirror = mirror; beside = option_map (disk_of d) taken.result };
@@ -166,12 +158,11 @@ all_back-devices-requires-clause-room g c =
     let d = g.D.Device in
     let ask = array_ask c.args.command in
     let names = texts c.args.names.now in
-    let lacking = c.args.session.now.lacking.now in
     let taken = c.take_beside-beside in
     let before = map (disk_of d) taken.new.devices.items in
     let after = map (disk_of d) c.in-Err.members.items in
     let many = length-map taken.new.devices.items (disk_of d) in
-    let back = refused_back ask before after (option_map (disk_of d) taken.result) (there_same (disk_of d) taken.result ∙ taken.ensures.brings) (lacking_as_many lacking before after c.in-Err.fault c.in-Err.ensures.gives) in
+    let back = refused_back ask before after (option_map (disk_of d) taken.result) (there_same (disk_of d) taken.result ∙ taken.ensures.brings) (refused_as_many before after c.in-Err.fault c.in-Err.ensures.gives) in
     let enough : moves_device ask ≡ true → length taken.new.devices.items + count taken.result ≤ vec_capacity c.in-Ok.list = λ moves. omega (arith, c.in-Ok.ensures.room moves, c.len.ensures, taken.ensures.as_many) in
     room_back d ask taken.new.devices.items c.in-Err.members.items taken.result taken.result before after many refl back _ enough
 
@@ -180,12 +171,11 @@ all_back-devices-requires-clause-within g c =
     let d = g.D.Device in
     let ask = array_ask c.args.command in
     let names = texts c.args.names.now in
-    let lacking = c.args.session.now.lacking.now in
     let taken = c.take_beside-beside in
     let before = map (disk_of d) taken.new.devices.items in
     let after = map (disk_of d) c.in-Err.members.items in
     let many = length-map taken.new.devices.items (disk_of d) in
-    let back = refused_back ask before after (option_map (disk_of d) taken.result) (there_same (disk_of d) taken.result ∙ taken.ensures.brings) (lacking_as_many lacking before after c.in-Err.fault c.in-Err.ensures.gives) in
+    let back = refused_back ask before after (option_map (disk_of d) taken.result) (there_same (disk_of d) taken.result ∙ taken.ensures.brings) (refused_as_many before after c.in-Err.fault c.in-Err.ensures.gives) in
     within_back d ask taken.new.devices.items c.in-Err.members.items taken.result taken.result before after many refl back
 
 pub returns-in-Err-clause-as_many : goal.returns-in-Err-clause-as_many
@@ -193,12 +183,11 @@ returns-in-Err-clause-as_many g c =
     let d = g.D.Device in
     let ask = array_ask c.args.command in
     let names = texts c.args.names.now in
-    let lacking = c.args.session.now.lacking.now in
     let taken = c.take_beside-beside in
     let before = map (disk_of d) taken.new.devices.items in
     let after = map (disk_of d) c.in-Err.members.items in
     let many = length-map taken.new.devices.items (disk_of d) in
-    let back = refused_back ask before after (option_map (disk_of d) taken.result) (there_same (disk_of d) taken.result ∙ taken.ensures.brings) (lacking_as_many lacking before after c.in-Err.fault c.in-Err.ensures.gives) in
+    let back = refused_back ask before after (option_map (disk_of d) taken.result) (there_same (disk_of d) taken.result ∙ taken.ensures.brings) (refused_as_many before after c.in-Err.fault c.in-Err.ensures.gives) in
     as_many_back d ask taken.new.devices.items c.in-Err.members.items taken.result taken.result before after many refl back c.all_back-devices.result.items c.all_back-devices.ensures ∙ taken.ensures.as_many
 
 pub returns-in-Err-clause-gives : goal.returns-in-Err-clause-gives
@@ -206,12 +195,11 @@ returns-in-Err-clause-gives g c =
     let d = g.D.Device in
     let ask = array_ask c.args.command in
     let names = texts c.args.names.now in
-    let lacking = c.args.session.now.lacking.now in
     let taken = c.take_beside-beside in
     let before = map (disk_of d) taken.new.devices.items in
     let after = map (disk_of d) c.in-Err.members.items in
     let many = length-map taken.new.devices.items (disk_of d) in
-    let back = refused_back ask before after (option_map (disk_of d) taken.result) (there_same (disk_of d) taken.result ∙ taken.ensures.brings) (lacking_as_many lacking before after c.in-Err.fault c.in-Err.ensures.gives) in
+    let back = refused_back ask before after (option_map (disk_of d) taken.result) (there_same (disk_of d) taken.result ∙ taken.ensures.brings) (refused_as_many before after c.in-Err.fault c.in-Err.ensures.gives) in
     inl (record {
       members = map (disk_of d) taken.new.devices.items;
       device = taken.ensures.takes.device;

@@ -1,7 +1,7 @@
 use Rattle.std.proofs.Common.{◌≡◌, ◌∙◌, List, length, map, ap, sym, subst, refl, inl, inr}
 use Rattle.md_state.specs.View.{Disk, disk_of}
 use Rattle.md_metadata.specs.Grow.Growing.{Grows, RefusesToGrow}
-use Rattle.md_report.specs.AsText.WholeArray.SummaryReport.{summary_text}
+use Rattle.md_report.specs.SummaryReport.{summary_text}
 use Rattle.md_cli.specs.Arrays.{ShowsDevices}
 use Rattle.md_cli.proofs.Created.{written_back}
 use Rattle.md_cli.proofs.growing.grow_on.Goals as goal

@@ -90,16 +90,15 @@ returns-clause-taken g c taken other =
     let bitmap : option_map (λ s. s.now) c.in-Ok.request.bitmap ≡ bitmap_word words = subst (λ parsed. IfOk parsed (λ r. option_map (λ s. s.now) r.bitmap ≡ bitmap_word words)) c.in-Ok.is c.requires.bitmap in
     let kind = option_map (λ s. s.now) c.in-Ok.request.bitmap in
     let random = c.args.session.now.random_bytes in
-    let lacking = c.args.session.now.lacking.now in
     let first = c.none-notices.result in
     let none : first ≡ nothing = c.none-notices.ensures in
     let old = told_of c.args.session.now first in
-    let does : Obeys i d g.R.Source g.S.Sink g.A.Asker random lacking kind (ask_of own) names c.args.images.now acted.images old (told_of acted.session acted.notices) acted.outcome = elim c.match-command.branch [
+    let does : Obeys i d g.R.Source g.S.Sink g.A.Asker random kind (ask_of own) names c.args.images.now acted.images old (told_of acted.session acted.notices) acted.outcome = elim c.match-command.branch [
       | in-Image w ↦
           let call = w.examine_images-outcome in
           let session = record c.args.session.now { out = call.new.out } in
-          stands_so i d g.R.Source g.S.Sink g.A.Asker random lacking kind names c.args.images.now old own (command.Image w.in-Image.command) call.new.images acted.images session acted.session first acted.notices call.result acted.outcome w.in-Image.is w.images-is w.session-is w.notices-is w.outcome-is
-          (shows_by i d g.R.Source g.S.Sink g.A.Asker random lacking kind names c.args.images.now call.new.images old (told_of session first) call.result w.in-Image.command (
+          stands_so i d g.R.Source g.S.Sink g.A.Asker random kind names c.args.images.now old own (command.Image w.in-Image.command) call.new.images acted.images session acted.session first acted.notices call.result acted.outcome w.in-Image.is w.images-is w.session-is w.notices-is w.outcome-is
+          (shows_by i d g.R.Source g.S.Sink g.A.Asker random kind names c.args.images.now call.new.images old (told_of session first) call.result w.in-Image.command (
             refl,
             record {
               count = λ more. (let none = call.ensures.count (λ is. more (length-map c.as_slice-names.result.now (λ s. s.now) ∙ is)) in (none.0, (none.1, none.2)));
@@ -109,20 +108,20 @@ returns-clause-taken g c taken other =
           ))
       | in-Create w ↦
           let call = w.create_array-outcome in
-          stands_so i d g.R.Source g.S.Sink g.A.Asker random lacking kind names c.args.images.now old own (command.Create w.in-Create.options) call.new.images acted.images call.new.session acted.session call.new.notices acted.notices call.result acted.outcome w.in-Create.is w.images-is w.session-is w.notices-is w.outcome-is
+          stands_so i d g.R.Source g.S.Sink g.A.Asker random kind names c.args.images.now old own (command.Create w.in-Create.options) call.new.images acted.images call.new.session acted.session call.new.notices acted.notices call.result acted.outcome w.in-Create.is w.images-is w.session-is w.notices-is w.outcome-is
           call.ensures.gives
       | in-Grow w ↦
           let call = w.grow_array-outcome in
           let session = record c.args.session.now { out = call.new.out } in
-          stands_so i d g.R.Source g.S.Sink g.A.Asker random lacking kind names c.args.images.now old own (command.Grow w.in-Grow.bitmap w.in-Grow.chunk) call.new.images acted.images session acted.session first acted.notices call.result acted.outcome w.in-Grow.is w.images-is w.session-is w.notices-is w.outcome-is
+          stands_so i d g.R.Source g.S.Sink g.A.Asker random kind names c.args.images.now old own (command.Grow w.in-Grow.bitmap w.in-Grow.chunk) call.new.images acted.images session acted.session first acted.notices call.result acted.outcome w.in-Grow.is w.images-is w.session-is w.notices-is w.outcome-is
           (refl, call.ensures.gives)
       | in-Array w ↦
           let call = w.with_array-outcome in
-          stands_so i d g.R.Source g.S.Sink g.A.Asker random lacking kind names c.args.images.now old own (command.Array w.in-Array.command) call.new.images acted.images call.new.session acted.session call.new.notices acted.notices call.result acted.outcome w.in-Array.is w.images-is w.session-is w.notices-is w.outcome-is
-          (does_by i d g.R.Source g.S.Sink g.A.Asker random lacking kind names c.args.images.now call.new.images old (told_of call.new.session call.new.notices) call.result w.in-Array.command call.ensures.gives)
+          stands_so i d g.R.Source g.S.Sink g.A.Asker random kind names c.args.images.now old own (command.Array w.in-Array.command) call.new.images acted.images call.new.session acted.session call.new.notices acted.notices call.result acted.outcome w.in-Array.is w.images-is w.session-is w.notices-is w.outcome-is
+          (does_by i d g.R.Source g.S.Sink g.A.Asker random kind names c.args.images.now call.new.images old (told_of call.new.session call.new.notices) call.result w.in-Array.command call.ensures.gives)
     ] in
     let Doing : Notices → Option Text → Ask → List Text → Type 0 =
-    λ noticed kind ask names. Obeys i d g.R.Source g.S.Sink g.A.Asker random lacking kind ask names c.args.images.now acted.images (told_of c.args.session.now noticed) (told_of acted.session acted.notices) acted.outcome in
+    λ noticed kind ask names. Obeys i d g.R.Source g.S.Sink g.A.Asker random kind ask names c.args.images.now acted.images (told_of c.args.session.now noticed) (told_of acted.session acted.notices) acted.outcome in
     let Telling : Bool → Ask → List Text → Type 0 =
     λ shown ask names. TellsNoticed g.E.Sink (record { messages = c.args.messages; was_shown = shown }) ask names (streams_of acted.session).gaps c.args.err.now c.tell_outcome.new.err acted.outcome acted.notices in
     let told = subst (λ shown. Telling shown (ask_of own) names) c.is_told_first.ensures c.tell_outcome.ensures in

@@ -1,6 +1,6 @@
 use Rattle.std.proofs.Common.{None, refl}
 use Rattle.md_state.specs.View.{disk_of}
-use Rattle.md_report.specs.AsText.WholeArray.SummaryReport.{summary_text}
+use Rattle.md_report.specs.SummaryReport.{summary_text}
 use Rattle.md_commands.proofs.DeviceCounts.{comes_back, joins}
 use Rattle.md_commands.proofs.StoppedAfter.{added_or_not}
 use Rattle.md_commands.proofs.adding.add_device.Goals as goal

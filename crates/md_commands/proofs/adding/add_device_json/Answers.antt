@@ -1,7 +1,7 @@
 use Rattle.std.proofs.Common.{None, refl}
 use Rattle.std.specs.Prelude.{codes}
 use Rattle.md_state.specs.View.{disk_of}
-use Rattle.md_report.specs.AsJson.WholeArray.MemberObjects.{texts_of}
+use Rattle.md_report.specs.AsJson.MemberObjects.{texts_of}
 use Rattle.md_commands.specs.Objects.{summary_line}
 use Rattle.md_commands.proofs.DeviceCounts.{comes_back, joins}
 use Rattle.md_commands.proofs.StoppedAfter.{added_or_not}

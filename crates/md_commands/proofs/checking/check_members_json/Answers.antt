@@ -1,7 +1,7 @@
 use Rattle.std.proofs.Common.{◌≡◌, MatchResult, refl, subst, sym}
 use Rattle.md_bitmap.specs.Marks.{count_set}
 use Rattle.md_check.specs.Differences.{IsSized}
-use Rattle.md_report.specs.AsJson.WholeArray.MemberObjects.{texts_of}
+use Rattle.md_report.specs.AsJson.MemberObjects.{texts_of}
 use Rattle.md_state.specs.View.{ArrayView}
 use Rattle.md_commands.specs.Objects.{checked_line}
 use Rattle.md_commands.specs.Output.{FailsOutput, PutsOut}

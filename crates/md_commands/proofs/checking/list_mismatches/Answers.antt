@@ -2,7 +2,7 @@ use Rattle.std.proofs.Common.{◌≡◌, MatchResult, refl, subst, sym}
 use Rattle.md_bitmap.specs.declared.chunks.Chunks.{Chunks}
 use Rattle.md_bitmap.specs.Marks.{count_set}
 use Rattle.md_check.specs.Differences.{IsSized}
-use Rattle.md_report.specs.AsText.CheckReport.{list_text}
+use Rattle.md_report.specs.CheckReport.{list_text}
 use Rattle.md_commands.specs.Output.{FailsOutput, PutsOut}
 use Rattle.md_commands.proofs.Listed.{found_sized, listed_or_not}
 use Rattle.md_commands.proofs.Wrapped.{own_ok, own_on_ok}

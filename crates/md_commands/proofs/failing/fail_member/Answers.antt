@@ -1,6 +1,6 @@
 use Rattle.std.proofs.Common.{rules, ◌≡◌}
 use Rattle.std.specs.Prelude.{Err}
-use Rattle.md_report.specs.AsText.WholeArray.SummaryReport.{summary_text}
+use Rattle.md_report.specs.SummaryReport.{summary_text}
 use Rattle.md_commands.proofs.StoppedAfter.{failed_or_not, not_failed}
 use Rattle.md_commands.proofs.failing.fail_member.Goals as goal
 

@@ -1,6 +1,6 @@
 use Rattle.std.proofs.Common.{rules, ◌≡◌}
 use Rattle.std.specs.Prelude.{Err}
-use Rattle.md_report.specs.AsText.Rebuilds.RebuiltReport.{planned_text}
+use Rattle.md_report.specs.RebuiltReport.{planned_text}
 use Rattle.md_commands.proofs.Planned.{not_planned, planned_or_not}
 use Rattle.md_commands.proofs.planning.show_plan.Goals as goal
 

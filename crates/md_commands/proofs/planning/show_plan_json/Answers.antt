@@ -1,6 +1,6 @@
 use Rattle.std.proofs.Common.{rules, ◌≡◌}
 use Rattle.std.specs.Prelude.{Err}
-use Rattle.md_report.specs.AsJson.WholeArray.MemberObjects.{texts_of}
+use Rattle.md_report.specs.AsJson.MemberObjects.{texts_of}
 use Rattle.md_commands.specs.Objects.{planned_line}
 use Rattle.md_commands.proofs.Planned.{not_planned, planned_or_not}
 use Rattle.md_commands.proofs.planning.show_plan_json.Goals as goal

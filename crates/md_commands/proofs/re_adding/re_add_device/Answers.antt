@@ -1,7 +1,7 @@
 use Rattle.std.proofs.Common.{None}
 use Rattle.md_state.specs.View.{disk_of}
 use Rattle.md_commands.specs.ReAdding.{ComesBackReadied}
-use Rattle.md_report.specs.AsText.WholeArray.SummaryReport.{summary_text}
+use Rattle.md_report.specs.SummaryReport.{summary_text}
 use Rattle.md_commands.proofs.RebuildCounts.{joins_rebuilt, stays_away, stays_untried}
 use Rattle.md_commands.proofs.Rebuilt.{re_added_or_not}
 use Rattle.md_commands.proofs.re_adding.re_add_device.Goals as goal

@@ -2,7 +2,7 @@ use Rattle.std.proofs.Common.{None}
 use Rattle.std.specs.Prelude.{codes}
 use Rattle.md_state.specs.View.{disk_of}
 use Rattle.md_commands.specs.ReAdding.{ComesBackReadied}
-use Rattle.md_report.specs.AsJson.WholeArray.MemberObjects.{texts_of}
+use Rattle.md_report.specs.AsJson.MemberObjects.{texts_of}
 use Rattle.md_commands.specs.Objects.{summary_line}
 use Rattle.md_commands.proofs.RebuildCounts.{joins_rebuilt, stays_away, stays_untried}
 use Rattle.md_commands.proofs.Rebuilt.{re_added_or_not}

@@ -1,7 +1,7 @@
 use Rattle.std.proofs.Common.{rules, ◌≡◌, refl}
 use Rattle.std.specs.Prelude.{Err, codes}
 use Rattle.md_commands.specs.declared.fault.CommandFault.TheVariants.{Rebuild}
-use Rattle.md_report.specs.AsJson.WholeArray.MemberObjects.{texts_of}
+use Rattle.md_report.specs.AsJson.MemberObjects.{texts_of}
 use Rattle.md_commands.specs.Objects.{summary_line}
 use Rattle.md_commands.proofs.Rebuilt.{shown_or_not}
 use Rattle.md_commands.proofs.Wrapped.{own_err, own_ok}

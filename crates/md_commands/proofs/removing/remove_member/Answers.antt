@@ -1,5 +1,5 @@
 use Rattle.md_state.specs.View.{disk_of}
-use Rattle.md_report.specs.AsText.WholeArray.SummaryReport.{summary_text}
+use Rattle.md_report.specs.SummaryReport.{summary_text}
 use Rattle.md_commands.proofs.DeviceCounts.{leaves, stays}
 use Rattle.md_commands.proofs.StoppedAfter.{not_removed, removed_or_not}
 use Rattle.md_commands.proofs.removing.remove_member.Goals as goal

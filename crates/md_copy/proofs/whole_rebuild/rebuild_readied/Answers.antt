@@ -1,6 +1,6 @@
 use Rattle.std.proofs.Common.{◌≡◌, ◌∙◌, List, ap, subst, sym}
 use Rattle.md_bitmap.specs.Marks.{Bitmap}
-use Rattle.md_copy.specs.Ending.Enrolled.{AreNoOrphans}
+use Rattle.md_copy.specs.Enrolled.{AreNoOrphans}
 use Rattle.md_copy.proofs.Passing.PassesLack.{all_lacks}
 use Rattle.std.proofs.lemmas.Result.{err_from_is_err_and}
 use Rattle.md_plan.specs.declared.planner.Planned.{Planned}

@@ -1,5 +1,4 @@
 use Rattle.md_copy.proofs.SalvageLaws.SalvageLeads.{salvage_leads}
-use Rattle.md_copy.proofs.SalvageLaws.UnlistedLeads.{unlisted_leads}
 use Rattle.md_copy.proofs.SalvageLaws.UnsalvagedLeads.{unsalvaged_leads}
 use Rattle.md_copy.proofs.salvaging.laws.salvage_events.Goals as goal
 
@@ -7,5 +6,4 @@ pub returns : goal.returns
 returns c = record {
   done = salvage_leads;
   refused = unsalvaged_leads;
-  full = unlisted_leads;
 }

@@ -1,5 +1,4 @@
 use Rattle.std.proofs.Common.{◌∙◌, refl, sym, ap, inl}
-use Rattle.std.proofs.lemmas.Bool.{both_ways}
 use Rattle.std.proofs.lemmas.Result.{err_from_is_err_and}
 use Rattle.md_state.specs.View.{ArrayView}
 use Rattle.md_copy.proofs.SalvageLemmas.EnrolsLost.{lists_then, noted_recorded, noting_ends}
@@ -11,7 +10,7 @@ returns-then-is_empty-clause-gives g c = inl (c.is_empty.ensures.0 c.if-is_empty
 pub returns-in_err-note_lost-clause-gives : goal.returns-in_err-note_lost-clause-gives
 returns-in_err-note_lost-clause-gives g c =
     let p = err_from_is_err_and c.from_residual.result c.from_residual.ensures.1 in
-    rw (p.1, p.2) (noting_ends c.args.lost.now (λ none. both_ways c.is_empty.result c.if-is_empty.false (c.is_empty.ensures.1 none)) c.args.mirror.now c.note_lost.new.mirror c.in_err-note_lost.field-0.0 c.in_err-note_lost.ensures.gives)
+    rw (p.1, p.2) (noting_ends c.args.lost.now c.args.mirror.now c.note_lost.new.mirror c.in_err-note_lost.field-0.0 c.in_err-note_lost.ensures.gives)
 
 pub store_lists-requires-clause-running : goal.store_lists-requires-clause-running
 store_lists-requires-clause-running g c = ap (λ (v : ArrayView). v.halted) c.in_ok-note_lost.ensures.gives.others ∙ c.requires.running

@@ -1,4 +1,4 @@
-use Rattle.md_report.specs.AsText.CheckReport.{chunk_line}
+use Rattle.md_report.specs.CheckReport.{chunk_line}
 use Rattle.md_examine.proofs.Puts.{puts_then}
 use Rattle.md_report.proofs.as_text.check_line.chunk_line.Goals as goal
 

@@ -1,7 +1,7 @@
 use Rattle.std.proofs.Common.{ℕ, List, subst}
 use Rattle.md_examine.specs.Sink.{Puts}
 use Rattle.md_examine.proofs.Puts.{puts_then, puts_nothing, flat_map_next}
-use Rattle.md_report.specs.AsText.CheckReport.{chunk_text}
+use Rattle.md_report.specs.CheckReport.{chunk_text}
 use Rattle.md_report.proofs.as_text.check_line.chunk_lines.Goals as goal
 
 pub loop-c-init : goal.loop-c-init

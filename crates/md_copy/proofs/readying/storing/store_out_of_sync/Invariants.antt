@@ -1,5 +1,0 @@
-use Rattle.md_metadata.specs.Storing.{RecordsBelow}
-use Rattle.md_copy.proofs.readying.storing.store_out_of_sync.Given as goal
-
-abbrev pub invariant-loop-k : goal.invariant-loop-k
-invariant-loop-k g l = RecordsBelow l.k l.fn.mirror l.mirror

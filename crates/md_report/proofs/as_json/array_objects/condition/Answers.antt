@@ -1,0 +1,11 @@
+use Rattle.md_report.specs.AsJson.Objects.{later_text}
+use Rattle.md_report.specs.AsJson.ArrayObjects.{condition_fields}
+use Rattle.md_examine.proofs.Puts.{puts_then}
+use Rattle.md_report.proofs.JsonLemmas.Texts.{puts_last}
+use Rattle.md_report.proofs.as_json.array_objects.condition.Goals as goal
+
+pub returns : goal.returns
+unfolding later_text condition_fields
+returns g c =
+    let all = puts_then g.S.Sink.contents g.S.Sink.failed c.in_ok-next_number.ensures (puts_then g.S.Sink.contents g.S.Sink.failed c.in_ok-next_cleanness.ensures (puts_then g.S.Sink.contents g.S.Sink.failed c.in_ok-next_bool.ensures (puts_then g.S.Sink.contents g.S.Sink.failed c.in_ok-next_bool-2.ensures (puts_then g.S.Sink.contents g.S.Sink.failed c.in_ok-next_number-2.ensures (puts_then g.S.Sink.contents g.S.Sink.failed c.in_ok-next_number-3.ensures (puts_last g.S.Sink.contents g.S.Sink.failed c.in_ok-next_number-4.ensures)))))) in
+    rw (c.members_in_sync.ensures, c.shared.ensures, c.degraded.ensures.roles, c.resynced.ensures, c.events.ensures, c.chunks.ensures, c.count.ensures, c.marks.ensures, c.marks-2.ensures) at all

@@ -1,0 +1,10 @@
+use Rattle.md_report.specs.AsJson.Objects.{later_text}
+use Rattle.md_report.specs.AsJson.BitmapObject.{identity_fields}
+use Rattle.md_examine.proofs.Puts.{puts_then}
+use Rattle.md_report.proofs.JsonLemmas.Texts.{puts_last}
+use Rattle.md_report.proofs.as_json.bitmap_object.identity.Goals as goal
+
+pub returns : goal.returns
+unfolding later_text identity_fields
+returns g c =
+    puts_then g.S.Sink.contents g.S.Sink.failed c.in_ok-next_text.ensures (puts_then g.S.Sink.contents g.S.Sink.failed c.in_ok-next_number.ensures (puts_then g.S.Sink.contents g.S.Sink.failed c.in_ok-next_uuid.ensures (puts_then g.S.Sink.contents g.S.Sink.failed c.in_ok-next_number-2.ensures (puts_last g.S.Sink.contents g.S.Sink.failed c.in_ok-next_number-3.ensures))))

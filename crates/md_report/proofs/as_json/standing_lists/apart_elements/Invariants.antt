@@ -1,0 +1,12 @@
+use Rattle.std.proofs.Common.{◌≡◌, false, length}
+use Rattle.md_examine.specs.Sink.{Puts}
+use Rattle.md_report.specs.AsJson.Objects.{elements_text, whole}
+use Rattle.md_report.specs.AsJson.StandingLists.{apart_to}
+use Rattle.md_report.proofs.JsonLemmas.Texts.{is_later}
+use Rattle.md_report.proofs.as_json.standing_lists.apart_elements.Given as goal
+
+abbrev pub invariant-loop-k : goal.invariant-loop-k
+invariant-loop-k g l = record {
+  puts : Puts g.S.Sink.contents g.S.Sink.failed l.fn.out l.out (elements_text whole false (apart_to l.mirror.array.members l.k));
+  later : l.later ≡ is_later false (length (apart_to l.mirror.array.members l.k));
+}

@@ -1,0 +1,10 @@
+use Rattle.md_report.specs.AsJson.Objects.{later_text}
+use Rattle.md_report.specs.AsJson.SuperblockObject.{device_fields}
+use Rattle.md_examine.proofs.Puts.{puts_then}
+use Rattle.md_report.proofs.JsonLemmas.Texts.{puts_last}
+use Rattle.md_report.proofs.as_json.superblock_object.device.Goals as goal
+
+pub returns : goal.returns
+unfolding later_text device_fields
+returns g c =
+    puts_then g.S.Sink.contents g.S.Sink.failed c.in_ok-recovery.ensures (puts_then g.S.Sink.contents g.S.Sink.failed c.in_ok-next_number.ensures (puts_then g.S.Sink.contents g.S.Sink.failed c.in_ok-device_role.ensures (puts_then g.S.Sink.contents g.S.Sink.failed c.in_ok-role.ensures (puts_then g.S.Sink.contents g.S.Sink.failed c.in_ok-next_uuid.ensures (puts_last g.S.Sink.contents g.S.Sink.failed c.in_ok-next_number-2.ensures)))))

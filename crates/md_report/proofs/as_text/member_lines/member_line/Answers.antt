@@ -1,0 +1,8 @@
+use Rattle.md_report.specs.DetailReport.{member_text}
+use Rattle.md_examine.proofs.Puts.{puts_then}
+use Rattle.md_report.proofs.as_text.member_lines.member_line.Goals as goal
+
+pub returns : goal.returns
+unfolding member_text
+returns g c =
+    puts_then g.S.Sink.contents g.S.Sink.failed (puts_then g.S.Sink.contents g.S.Sink.failed (puts_then g.S.Sink.contents g.S.Sink.failed (puts_then g.S.Sink.contents g.S.Sink.failed (puts_then g.S.Sink.contents g.S.Sink.failed c.in_ok-number.ensures c.in_ok-number-2.ensures) c.in_ok-role.ensures) c.in_ok-standing.ensures) c.in_ok-flag.ensures) c.in_ok-put.ensures

@@ -1,8 +1,0 @@
-use Rattle.std.proofs.Common.{take}
-use Rattle.md_examine.specs.Sink.{Puts}
-use Rattle.md_report.specs.AsJson.WholeArray.MemberObjects.{texts_of}
-use Rattle.md_report.specs.AsText.WholeArray.VerboseReport.{named_lines}
-use Rattle.md_report.proofs.as_text.whole_array.verbose_report.named_lines.Given as goal
-
-abbrev pub invariant-loop-k : goal.invariant-loop-k
-invariant-loop-k g l = Puts g.S.Sink.contents g.S.Sink.failed l.fn.out l.out (named_lines l.mirror.array (texts_of l.images) 0 (take l.k l.mirror.array.members))
