@@ -24,7 +24,9 @@ chunk_end a chunk = min ((chunk + 1) * a.chunks.sectors) a.chunks.size
 -- the member lists a sector of the chunk
 abbrev pub lists_part : ArrayView → ℕ → MemberView → Bool
 lists_part a chunk m =
-    lists_between m.bad (m.superblock.data_offset + chunk_start a chunk) (m.superblock.data_offset + chunk_end a chunk)
+    lists_between m.bad
+    (m.superblock.data_offset + chunk_start a chunk)
+    (m.superblock.data_offset + chunk_end a chunk)
 
 -- the member does not give the whole chunk: it lists a sector of it, or is not in sync
 abbrev pub gives_no_whole : ArrayView → ℕ → MemberView → Bool

@@ -61,8 +61,10 @@ fn is_rebuilt(state: MemberState) -> bool
 fn find_ungiven<D: Device + Drop>(mirror: &Mirror<D>, k: usize) -> UngivenChunks
     requires within { k < length mirror.now.array.members }
     requires sound { IsConsistent mirror.now }
-    ensures { (m : MemberView) → IsMember mirror.now.array k m → result
-        ≡ ungiven_before mirror.now.array m (div_ceil mirror.now.array.chunks.size mirror.now.array.chunks.sectors) }
+    ensures { (m : MemberView) → IsMember mirror.now.array k m →
+        result
+        ≡ ungiven_before mirror.now.array m
+        (div_ceil mirror.now.array.chunks.size mirror.now.array.chunks.sectors) }
 {
     let mut count = 0;
     let mut first = None;
@@ -84,7 +86,8 @@ fn is_ungiven<D: Device + Drop>(mirror: &Mirror<D>, k: usize, chunk: u32) -> boo
     requires within { k < length mirror.now.array.members }
     requires sound { IsConsistent mirror.now }
     requires chunk { chunk < div_ceil mirror.now.array.chunks.size mirror.now.array.chunks.sectors }
-    ensures { (m : MemberView) → IsMember mirror.now.array k m → result ≡ is_ungiven mirror.now.array m chunk }
+    ensures { (m : MemberView) → IsMember mirror.now.array k m →
+        result ≡ is_ungiven mirror.now.array m chunk }
 {
     mirror.is_missing(k, chunk) && nobody_gives(mirror, chunk)
 }
@@ -106,7 +109,8 @@ fn nobody_gives<D: Device + Drop>(mirror: &Mirror<D>, chunk: u32) -> bool
 fn gives_no_whole<D: Device + Drop>(mirror: &Mirror<D>, k: usize, chunk: u32) -> bool
     requires within { k < length mirror.now.array.members }
     requires chunk { chunk < div_ceil mirror.now.array.chunks.size mirror.now.array.chunks.sectors }
-    ensures { (m : MemberView) → IsMember mirror.now.array k m → result ≡ gives_no_whole mirror.now.array chunk m }
+    ensures { (m : MemberView) → IsMember mirror.now.array k m →
+        result ≡ gives_no_whole mirror.now.array chunk m }
 {
     if !mirror.state(k).is_in_sync() {
         return true;

@@ -195,7 +195,7 @@ pub(crate) fn command_line<'a>(alloc: Global) -> Result<Command<'a>, AllocError>
 {
     let program = Command::new(alloc, "mdcli")
         .about("Makes, reads and writes Linux md RAID-1 arrays (metadata 1.2)")
-        .version("0.2.0")
+        .version("1.0.0")
         .subcommand_required(true);
     let program = examine_commands(alloc, program)?;
     let program = array_commands(alloc, program)?;

@@ -42,7 +42,7 @@ pub record RegardsSectors (k : ℕ) (more : ℕ → Bool) (old new : MirrorView)
   pub disks : new.disks ≡ old.disks
   pub lists : ListsMore k more old.array new.array
 
--- It is the event of sectors that are noted, where these may be.
+-- What regards sectors as bad is the event of sectors that are noted, where these may be.
 abbrev pub RegardHappens : ℕ → (ℕ → Bool) → MirrorView → MirrorView → {T E : Type 0} → Result T E → Type 0
 RegardHappens k more old new result =
     old.array.halted ≡ false → old.array.resynced ≡ true → AreSectorsOf old more → NoteSectorsHappens k more old new result
