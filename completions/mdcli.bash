@@ -12,12 +12,12 @@ _mdcli_options() {
     scan) printf '%s\n' --json --readonly ;;
     create) printf '%s\n' --level= --raid-devices= --uuid= --name= --bitmap-chunk= --size= --time= --write-mostly= --assume-clean --json --run ;;
     grow) printf '%s\n' --bitmap= --bitmap-chunk= ;;
-    assemble | detail) printf '%s\n' --json --readonly --map= --bitmap= ;;
-    plan) printf '%s\n' --member= --json --readonly --map= --bitmap= ;;
-    read) printf '%s\n' --sector= --count= --fill --map-out= --output= --resume --readonly --map= --bitmap= ;;
-    serve) printf '%s\n' --fill --readonly --map= --bitmap= ;;
+    assemble | detail) printf '%s\n' --json --readonly --map= --bitmap= --data-of= ;;
+    plan) printf '%s\n' --member= --json --readonly --map= --bitmap= --data-of= ;;
+    read) printf '%s\n' --sector= --count= --fill --map-out= --output= --resume --readonly --map= --bitmap= --data-of= ;;
+    serve) printf '%s\n' --fill --readonly --map= --bitmap= --data-of= ;;
     write) printf '%s\n' --sector= --count= ;;
-    check) printf '%s\n' --list --exit-code --json --readonly --map= --bitmap= ;;
+    check) printf '%s\n' --list --exit-code --json --readonly --map= --bitmap= --data-of= ;;
     resync) printf '%s\n' --map= ;;
     stop) printf '%s\n' --json ;;
     fail | remove) printf '%s\n' --member= ;;

@@ -45,6 +45,7 @@ complete -c mdcli -n '__fish_seen_subcommand_from create add re-add rebuild' -l 
 complete -c mdcli -n '__fish_seen_subcommand_from grow' -l bitmap -x -a 'internal' -d "The bitmap that the members get: one on each of them"
 complete -c mdcli -n '__fish_seen_subcommand_from assemble detail plan read check resync rebuild' -l map -x -d "The image is a copy of a disk, and FILE ddrescue's map of it: what it lacks is not read; of each image one"
 complete -c mdcli -n '__fish_seen_subcommand_from assemble detail plan read serve check' -l bitmap -x -a 'internal' -d "With --readonly: reads an array without a bitmap as if `grow` had given it one, in memory alone"
+complete -c mdcli -n '__fish_seen_subcommand_from assemble detail plan read serve check' -l data-of -x -d "With --readonly: the image is the device of this number in the array, though its superblock or bitmap can't be read; with --fill it is read where no other gives a sector"
 complete -c mdcli -n '__fish_seen_subcommand_from plan fail remove rebuild' -l member -x -d "The member: its place among the images, from 0, or its image as it is listed"
 complete -c mdcli -n '__fish_seen_subcommand_from read write' -l sector -x -d "The first sector of the array, from 0; a sector has 512 bytes. As 64M: that far from its start"
 complete -c mdcli -n '__fish_seen_subcommand_from read' -l count -x -d "The number of sectors, or a size as 64M: by default all up to the end of the array"

@@ -21,6 +21,8 @@ WITHIN = {
     "md_commands::resync_if_needed": "md_read_commands::read_array",
     "md_create::new_spare": "md_array::Mirror::add",
     "md_images::lay_over": "md_cli::run",
+    "md_read_commands::front_each": "md_cli::run",
+    "md_read_commands::put_stand_in": "md_cli::run",
     "md_kept_members::united_marks": "md_array::Mirror::open",
     "md_kept_members::in_sync": "md_copy::rebuild",
     "md_kept_members::admitted_superblock": "md_array::Mirror::admit",

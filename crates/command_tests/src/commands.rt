@@ -78,6 +78,7 @@ pub(crate) fn give<R: Abort + Threads + Wait + Sync>(
         gaps: None,
         is_all_out: false,
         stands: 0,
+        stand_in: None,
         mismatched: None,
         lacking: &[],
     };

@@ -1,8 +1,8 @@
 -- No command wins or loses a device: all come back from an opened array, and from beside it.
 use Rattle.md_device.specs.declared.device.Device.{Ghosts}
-use Rattle.std.proofs.Common.{◌≡◌, ◌∙◌, ◌+◌, ◌-◌, ◌<◌, ◌≤◌, ℕ, Bool, true, false, List, ◌∷◌, ◌++◌, drop, take, length, map, Option, None, Some, option_map, Result, Ok, Err, inl, inr, ap, ap₂, refl, sym, subst, arith, true≢false}
+use Rattle.std.proofs.Common.{◌≡◌, ◌∙◌, ◌+◌, ◌-◌, ◌<◌, ◌≤◌, ℕ, Bool, true, false, List, length, map, Option, None, Some, option_map, Result, Ok, Err, inl, inr, ap, ap₂, refl, sym, subst, arith, true≢false}
 use Rattle.std.specs.List.{insert}
-use Rattle.std.proofs.lemmas.List.{drop-map, length-map, map-append, take-map}
+use Rattle.std.proofs.lemmas.List.{length-map}
 use Rattle.std.proofs.lemmas.List.Edits.{length-insert}
 use Rattle.std.specs.Prelude.{is_some}
 use Rattle.std.proofs.Math.Nat.{le_refl}
@@ -25,6 +25,7 @@ use Rattle.md_commands.specs.declared.fault.CommandFault.{CommandFault}
 use Rattle.md_cli.specs.Opened.{OpenedView, count, moves_device, beside_place, with_beside}
 use Rattle.md_cli.specs.Performing.{Performs, PerformsRead, PutsRest, rebuilt_told, rest_from, salvaged_told, sectors_asked}
 use Rattle.md_cli.specs.Streams.{Streams}
+use Rattle.md_cli.proofs.StoodIn.{map-insert}
 
 -- Where there was a device beside the array only if the command brought one: as many devices as before come back, the one beside
 -- the array has its place among them, and there is one only where one may leave or join.
@@ -196,10 +197,6 @@ there_same f (Some x) = refl
 one_counted : {X : Type 0} (o : Option X) → is_some o ≡ true → count o ≡ 1
 one_counted None e = absurd (true≢false (sym e))
 one_counted (Some x) e = refl
-
-map-insert : {X Y : Type 0} (f : X → Y) (xs : List X) (i : ℕ) (y : X) → map f (insert xs i y) ≡ insert (map f xs) i (f y)
-map-insert f xs i y =
-    map-append f (take i xs) (y ∷ drop i xs) ∙ ap₂ (λ a b. a ++ f y ∷ b) (sym (take-map f i xs)) (sym (drop-map f i xs))
 
 plus_zero : (n : ℕ) → n + 0 ≡ n
 plus_zero n = omega arith

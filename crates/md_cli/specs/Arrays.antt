@@ -26,7 +26,7 @@ use Rattle.md_messages.specs.Noticed.{NotesOpening, with_dropped, without_stored
 use Rattle.md_messages.specs.Question.{Question}
 use Rattle.md_messages.specs.declared.notices.Notices.{Notices}
 use Rattle.md_cli.specs.Asking.{PerformsOrDeclines}
-use Rattle.md_cli.specs.InMemory.{GetsBitmapInMemory, GetsNoBitmap}
+use Rattle.md_cli.specs.InMemory.{GetsBitmapInMemory, GetsNoBitmap, GetsStandIn, RefusesStandIn}
 use Rattle.md_cli.specs.Lacking.{Maps, OpensLacking, RefusesLackingImages, growth_of}
 use Rattle.md_cli.specs.Opened.{OpenedView, moves_device, with_beside, with_last}
 use Rattle.md_cli.specs.Streams.{Told}
@@ -136,12 +136,15 @@ module _ {R S A : Type 0} (r : SourceGhosts R) (s : SinkGhosts S) (q : Question 
 
 module _ {R S A : Type 0} (r : SourceGhosts R) (s : SinkGhosts S) (q : Question A) (names : List Text)
     (lacking : Maps) (ask : Ask) (chunk : Option ℕ) where
-  -- The devices are only looked at, and what is written is kept in memory over them, a bitmap first, where one is asked for. They are
-  -- opened so as a mirror, and the command is done with it. Of what is noticed it is forgotten what was stored, and which writes failed.
+  -- The devices are only looked at, and what is written is kept in memory over them: first what stands in for a superblock that can't be
+  -- read, and then a bitmap, where these are asked for. They are opened so as a mirror, and the command is done with it. Of what is
+  -- noticed it is forgotten what was stored, and which writes failed.
   pub record LooksAtMirror (devices : List Disk) (old new : Told R S A)
       (result : Result (Unit {0}) CommandFault) : Type 0 where
+    pub fronted : List Disk
+    pub stands : GetsStandIn old.streams.stand_in (map overlaid devices) fronted
     pub given : List Disk
-    pub gets : GetsBitmapInMemory chunk (map overlaid devices) given
+    pub gets : GetsBitmapInMemory chunk fronted given
     pub seen : List Disk
     pub noted : Notices
     pub answer : Result (Unit {0}) CommandFault
@@ -157,15 +160,25 @@ module _ {R S A : Type 0} (r : SourceGhosts R) (s : SinkGhosts S) (q : Question 
   -- the members do not get the bitmap, and they are not opened
   pub record LooksWithoutBitmap (devices : List Disk) (old new : Told R S A)
       (result : Result (Unit {0}) CommandFault) : Type 0 where
+    pub fronted : List Disk
+    pub stands : GetsStandIn old.streams.stand_in (map overlaid devices) fronted
     pub why : GrowFault
-    pub none : GetsNoBitmap chunk (map overlaid devices) why
+    pub none : GetsNoBitmap chunk fronted why
     pub is : result ≡ answer_of_overlays (Err (Grow why))
+    pub unused : new ≡ old
+
+  -- the image that is to count as a device of the array does not
+  pub record LooksWithoutStandIn (devices : List Disk) (old new : Told R S A)
+      (result : Result (Unit {0}) CommandFault) : Type 0 where
+    pub why : CommandFault
+    pub refused : RefusesStandIn old.streams.stand_in (map overlaid devices) why
+    pub is : result ≡ Err why
     pub unused : new ≡ old
 
   abbrev pub LooksAtDevices : List Disk → Told R S A → Told R S A → Result (Unit {0}) CommandFault → Type 0
   LooksAtDevices devices old new result =
       LooksAtMirror devices old new result ⊎ LooksAtNothing old new result
-      ⊎ LooksWithoutBitmap devices old new result
+      ⊎ LooksWithoutBitmap devices old new result ⊎ LooksWithoutStandIn devices old new result
 
   -- whether the devices are only looked at
   abbrev pub WorksBy : Bool → List Disk → List Disk → Told R S A → Told R S A → Result (Unit {0}) CommandFault

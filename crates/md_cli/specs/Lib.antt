@@ -2,13 +2,15 @@
 pub mod Arrays
 -- Commands that may be asked first.
 pub mod Asking
+-- The image that counts as a device of the array.
+pub mod CountedImage
 -- What `create` makes of its options.
 pub mod CreateOptions
 -- What `create` does with the devices of the images.
 pub mod Creating
 -- What `grow` does with the devices of the images.
 pub mod Growing
--- A bitmap that members get in memory, where their images are only looked at.
+-- What members get in memory, where their images are only looked at.
 pub mod InMemory
 -- An opened array, and a device beside it.
 pub mod Opened

@@ -5,6 +5,7 @@ use Rattle.md_messages.specs.declared.messages.Audience.{Audience}
 use Rattle.md_messages.specs.declared.messages.Messages.{Messages}
 use Rattle.md_messages.specs.declared.notices.Notices.{Notices}
 use Rattle.md_read_commands.specs.declared.gaps.Gaps.{Gaps}
+use Rattle.md_read_commands.specs.declared.stand_in.put.StandIn.{StandIn}
 use Rattle.md_cli.specs.declared.session.Session.{Session}
 
 pub record Streams (R S A : Type 0) : Type 0 where
@@ -14,6 +15,7 @@ pub record Streams (R S A : Type 0) : Type 0 where
   pub mismatched : Option ℕ  -- in how many chunks a check found members to differ
   pub asker : A  -- who is asked, and was
   pub all_out : Bool  -- whether all sectors of a read that was to put out zeros are put out
+  pub stand_in : Option StandIn  -- the image that counts as a device of the array whose superblock can't be read
   pub stands : ℕ  -- how many of the sectors that a read is to put out stand already, from the first on
 
 abbrev pub streams_of : {T R S W A : Type 0} → Session T R S W A → Streams R S A
@@ -24,6 +26,7 @@ streams_of session = record {
   mismatched = session.mismatched;
   asker = session.asker;
   all_out = session.is_all_out;
+  stand_in = session.stand_in;
   stands = session.stands;
 }
 

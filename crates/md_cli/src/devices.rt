@@ -10,7 +10,7 @@ ghost use Rattle.md_cli.specs.Opened.{beside_place, count, with_beside};
 ghost use Rattle.md_cli.specs.Streams.{told_of};
 
 use crate::holes::open_lacking;
-use crate::in_memory::with_bitmap;
+use crate::in_memory::{with_bitmap, with_stand_in};
 use crate::opened::{Opened, all_back, room_for};
 use crate::performing_and_storing::perform_and_store;
 use crate::read_watch::ReadWatch;
@@ -56,7 +56,8 @@ pub(crate) fn look_at_devices<
     let Ok(overlays) = lay_over(session.alloc, devices) else {
         return Err(CommandFault::NoMemory);
     };
-    let given = match with_bitmap(session.alloc, overlays, chunk) {
+    let fronted = with_stand_in(session.alloc, overlays, session.stand_in)?;
+    let given = match with_bitmap(session.alloc, fronted, chunk) {
         Ok(given) => given,
         Err(fault) => return answer_of_overlays(Err(CommandFault::Grow(fault))),
     };

@@ -14,6 +14,7 @@
 #![tactic(auto)]
 
 mod arrays;
+mod counted_image;
 mod create_options;
 mod creating;
 mod devices;
@@ -38,6 +39,7 @@ mod sizing;
 mod storing_lists;
 mod trial_list;
 
+pub use counted_image::stand_in_of;
 pub use md_read_commands::FillWatch;
 pub use read_watch::ReadWatch;
 pub use refusing::show_why;

@@ -1,6 +1,6 @@
 // What a run has of the machine.
 use md_badblocks::BadSet;
-use md_read_commands::Gaps;
+use md_read_commands::{Gaps, StandIn};
 use std::alloc::Global;
 
 /// What each command is given of the machine that it runs on: what starts threads, the memory, the input, the output,
@@ -12,6 +12,8 @@ use std::alloc::Global;
 /// the read goes on behind them. `gaps` has those of them then that were not given to that one.
 ///
 /// `lacking` is what each image lacks by its map, in sectors of the image, in the order in which the images are named.
+///
+/// An image may count as a device of the array whose superblock can't be read, where the images are only looked at.
 #[derive(Drop)]
 pub struct Session<'a, T, R: Drop, S: Drop, W, A: Drop> {
     pub rt: &'a T,
@@ -24,6 +26,7 @@ pub struct Session<'a, T, R: Drop, S: Drop, W, A: Drop> {
     pub gaps: Option<Gaps>,
     pub is_all_out: bool,
     pub stands: u64,
+    pub stand_in: Option<StandIn>,
     pub mismatched: Option<u32>,
     pub lacking: &'a [BadSet],
 }

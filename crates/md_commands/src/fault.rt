@@ -26,7 +26,7 @@ pub enum CommandFault {
     /// can't be opened in the way that the command needs.
     #[error("BadImage {0}")]
     BadImage(usize, ImageRefusal),
-    /// The options of `create` or `grow` are refused.
+    /// The options of `create` or `grow`, or `--data-of`, are refused.
     #[error("{0}")]
     Options(OptionFault),
     /// An image is not read as a member.

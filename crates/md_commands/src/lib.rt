@@ -14,6 +14,7 @@
 
 mod adding;
 mod checking;
+mod data_of_fault;
 mod failing;
 mod fault;
 mod input;
@@ -38,6 +39,7 @@ mod writing_pieces;
 
 pub use adding::{add_device, add_device_json};
 pub use checking::{check_members, check_members_json, list_mismatches};
+pub use data_of_fault::DataOfFault;
 pub use failing::fail_member;
 pub use fault::CommandFault;
 pub use md_copy::Gate;

@@ -1,8 +1,8 @@
-// Why the options of `create` or `grow` are refused. A message is the fault's name.
+// Why the options of a command are refused. A message is the fault's name, and its values.
+use crate::data_of_fault::DataOfFault;
 use thiserror::Error;
 
-/// Why `create` or `grow` refuses its options, before any image is touched; in the order in which it is
-/// looked for.
+/// Why a command refuses its options, in the order in which it is looked for: before any image is touched, but for `--data-of`.
 #[derive(Clone, Copy, Debug, PartialEq, Eq, Error)]
 pub enum OptionFault {
     /// The level is not RAID 1: `1`, `raid1` or `mirror`.
@@ -26,4 +26,7 @@ pub enum OptionFault {
     /// The size in sectors doesn't fit 64 bits.
     #[error("BadSize")]
     BadSize,
+    /// The image of `--data-of` does not count as the device that it says.
+    #[error("{0}")]
+    DataOf(DataOfFault),
 }

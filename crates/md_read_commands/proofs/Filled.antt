@@ -34,14 +34,14 @@ use Rattle.md_commands.specs.declared.fault.CommandFault.TheVariants.{Read, Resy
 use Rattle.md_read_commands.specs.declared.gaps.Gaps.{Gaps}
 use Rattle.md_read_commands.specs.declared.way.Way.{Way}
 use Rattle.md_read_commands.specs.declared.way.Way.TheVariants.{Resynced, Unresynced}
-use Rattle.md_read_commands.specs.Filling.{FillsBlock, FillsContent, FillsFront, FillsMore, IsClear, IsFilled, IsGivenByRead, IsNotGiven, NotesOne, zeros}
+use Rattle.md_read_commands.specs.Filling.{FillsBlock, FillsContent, FillsFront, FillsMore, IsClear, IsFilled, IsGivenByRead, NotesOne, zeros}
 use Rattle.md_read_commands.specs.Gaps.{AreFit, AreFitGaps, HasBothGaps, IsGap, IsKeptAt, IsSameAt, no_gaps}
-use Rattle.md_read_commands.specs.Others.{IsTakenFromOther}
+use Rattle.md_read_commands.specs.Others.{IsGivenByNoneInSync, IsGivenByOther, IsGivenByStandIn, IsNotGiven, IsTakenFromOther, IsTakenFromStandIn}
 use Rattle.md_nbd.specs.declared.server.store.StoreFault.TheVariants.{Lacks}
 use Rattle.md_read_commands.specs.Serving.{LacksAsTold, LacksSector}
 use Rattle.md_read_commands.specs.Ways.{EndsReading, ReadsBy}
 use Rattle.md_read_commands.proofs.Noted.{bad_both}
-use Rattle.md_read_commands.proofs.OtherMembers.{gives_other_earlier, no_other_earlier, nobody_gives, source_fails_later}
+use Rattle.md_read_commands.proofs.OtherMembers.{first_stand_in_earlier, gives_other_earlier, no_other_earlier, nobody_gives, none_gives_later, none_gives_part_later, none_rests, source_fails_later}
 use Rattle.md_read_commands.proofs.Ways.{reads_rests, reads_some}
 
 -- what a buffer is filled with
@@ -554,11 +554,14 @@ module _ (old new : MirrorView) (sound : IsConsistent old) (sector s : ℕ) (pie
   not_given way fault ends sectors many = (lacks_as_told way fault ends sectors many).0
 
 -- ---- such a sector is filled
+other_rests : (fault : CommandFault) (s : ℕ) (block : List ℕ) (old new : MirrorView) → IsGivenByOther fault s block old new → Rests old new
+other_rests fault s block old new (inr given) = rests_then old given.mid new (none_rests fault s old given.mid given.none) given.gives.gives.rests
+other_rests (Resync (ReadFault k c)) s block old new (inl given) = given.gives.rests
+other_rests fault s block old new (inl given) = absurd given
+
 pub block_rests : (fault : CommandFault) (s : ℕ) (block : List ℕ) (was gaps : Gaps) (old new : MirrorView) → FillsBlock fault s block was gaps old new → Rests old new
-block_rests (Resync (ReadFault k c)) s block was gaps old new (inl h) = h.0.gives.rests
-block_rests (Resync (ReadFault k c)) s block was gaps old new (inr h) = h.0.rests
-block_rests fault s block was gaps old new (inl h) = absurd h.0
-block_rests fault s block was gaps old new (inr h) = subst (λ (v : MirrorView). Rests old v) (sym h.0) (rests_same old)
+block_rests fault s block was gaps old new (inl h) = other_rests fault s block old new h.0
+block_rests fault s block was gaps old new (inr h) = rests_then old h.0.mid new (none_rests fault s old h.0.mid h.0.none) h.0.last.rests
 
 pub block_fits : (fault : CommandFault) (s : ℕ) (block : List ℕ) (was gaps : Gaps) (old new : MirrorView) → FillsBlock fault s block was gaps old new → s < 2 ^ 54 → AreFitGaps was → AreFitGaps gaps
 block_fits fault s block was gaps old new fills low fit = elim fills [
@@ -567,19 +570,54 @@ block_fits fault s block was gaps old new fills low fit = elim fills [
 ]
 
 module _ (s : ℕ) (block : List ℕ) (long : length block ≡ 512) (was gaps : Gaps) (old mid new : MirrorView) (asked : Rests old mid) (clear : IsClear was s) where
+  -- no member in sync gave it
+  none_gave : (way : Way) (fault : CommandFault) → IsUngivenBy way fault s old mid → (late : MirrorView) → IsGivenByNoneInSync fault s mid late → NoneGives s old late
+  none_gave way (Read (Unreadable t)) why late none = none_gives_later old mid asked late (none_rests (Read (Unreadable t)) s mid late none) s why.1
+  none_gave Unresynced (Resync (ReadFault k c)) why late none =
+      nobody_gives k s old late (source_fails_later old mid asked late none.rests k s why) (no_other_earlier old mid asked late k s none)
+  none_gave way fault why late none = absurd why
+
+  -- nor was it given in this way once others were asked
+  still_not_given : (way : Way) (fault : CommandFault) → IsUngivenBy way fault s old mid → Rests mid new → IsNotGiven way s old new
+  still_not_given Resynced (Read (Unreadable t)) why later = none_gives_later old mid asked new later s why.0
+  still_not_given Unresynced (Read (Unreadable t)) why later = elim why.0 [
+    | inl part ↦ inl (none_gives_part_later old mid asked new later s part)
+    | inr fails ↦ inr (fails.0, source_fails_later old mid asked new later fails.0 s fails.1)
+  ]
+  still_not_given Unresynced (Resync (ReadFault k c)) why later = inr (k, source_fails_later old mid asked new later k s why)
+  still_not_given way fault why later = absurd why
+
+  taken_of_stand_in : (way : Way) (fault : CommandFault) → IsUngivenBy way fault s old mid → IsGivenByStandIn fault s block mid new → IsTakenFromStandIn way s block old new
+  taken_of_stand_in way fault why given =
+      let to = none_rests fault s mid given.mid given.none in
+      let there = rests_then old mid given.mid asked to in
+      record {
+        not_given = still_not_given way fault why (rests_then mid given.mid new to given.gives.gives.rests);
+        none = none_gives_later old given.mid there new given.gives.gives.rests s (none_gave way fault why given.mid given.none);
+        gives = first_stand_in_earlier old given.mid there new s block given.gives;
+      }
+
+  as_taken : (way : Way) → IsTakenFromStandIn way s block old new → IsTakenFromOther way s block old new
+  as_taken Resynced taken = taken
+  as_taken Unresynced taken = inr taken
+
+  taken_of_other : (way : Way) (fault : CommandFault) → IsUngivenBy way fault s old mid → IsGivenByOther fault s block mid new → IsTakenFromOther way s block old new
+  taken_of_other way fault why (inr given) = as_taken way (taken_of_stand_in way fault why given)
+  taken_of_other way (Read (Unreadable t)) why (inl given) = absurd given
+  taken_of_other Unresynced (Resync (ReadFault k c)) why (inl given) =
+      inl (k, source_fails_later old mid asked new given.gives.rests k s why, gives_other_earlier old mid asked new k s block given)
+  taken_of_other way fault why given = absurd why
+
   block_fills : (way : Way) (fault : CommandFault) → IsUngivenBy way fault s old mid → FillsBlock fault s block was gaps mid new → FillsMore way s block was gaps old new
-  block_fills way (Read (Unreadable t)) why (inl h) = absurd h.0
-  block_fills way (Read (Unreadable t)) why (inr h) =
-      subst (λ (v : MirrorView). FillsMore way s block was gaps old v) (sym h.0)
-      (lost_fills way s block long was gaps old mid asked clear h.1 why.0 why.1 h.2 h.3)
-  block_fills Unresynced (Resync (ReadFault k c)) why (inl h) =
-      taken_fills Unresynced s block long was gaps old new (rests_then old mid new asked h.0.gives.rests) clear
-      (k, source_fails_later old mid asked new h.0.gives.rests k s why, gives_other_earlier old mid asked new k s block h.0) h.1 h.2
-  block_fills Unresynced (Resync (ReadFault k c)) why (inr h) =
-      let fails = source_fails_later old mid asked new h.0.rests k s why in
-      lost_fills Unresynced s block long was gaps old new (rests_then old mid new asked h.0.rests) clear
-      h.1 (inr (k, fails)) (nobody_gives k s old new fails (no_other_earlier old mid asked new k s h.0)) h.2 h.3
-  block_fills way fault why h = absurd why
+  block_fills way fault why (inl h) =
+      taken_fills way s block long was gaps old new (rests_then old mid new asked (other_rests fault s block mid new h.0)) clear
+      (taken_of_other way fault why h.0) h.1 h.2
+  block_fills way fault why (inr h) =
+      let to = none_rests fault s mid h.0.mid h.0.none in
+      let later = rests_then mid h.0.mid new to h.0.last.rests in
+      lost_fills way s block long was gaps old new (rests_then old mid new asked later) clear
+      h.1 (still_not_given way fault why later)
+      (none_gives_later old h.0.mid (rests_then old mid h.0.mid asked to) new h.0.last.rests s (none_gave way fault why h.0.mid h.0.none)) h.2 h.3
 
 module _ (old mid new : MirrorView) (sound : IsConsistent old) (sector s : ℕ) (piece : List ℕ) (way : Way) (fault : CommandFault) (ends : EndsReading way sector s piece old mid fault) (block : List ℕ)
     (block_long : length block ≡ 512) (was gaps : Gaps) (clear : IsClear was sector) (fills : FillsBlock fault s block was gaps mid new) where
@@ -673,7 +711,7 @@ honest_later old mid first honest k e at =
 pub filled_content : FillsContent
 filled_content sector bytes gaps old new fills honest requests in_flight a rest i low free quiet =
     let s : ℕ = sector + i in
-    let g = fills.given i low (λ gap. elim gap [ inl bad ↦ free bad | inr bad ↦ fills.taken i low bad ]) in
+    let g = fills.given i low free in
     let first = g.before in
     let at = g.low in
     let below = g.high in

@@ -1,6 +1,7 @@
 pub mod AsResynced
 pub mod Filled
 pub mod FilledPut
+pub mod Fronts
 pub mod Missing
 pub mod Noted
 pub mod OtherMembers
@@ -11,5 +12,7 @@ pub mod ReadReadied
 pub mod ResyncedData
 pub mod Rooms
 pub mod Served
+pub mod StandIns
+pub mod Stands
 pub mod Told
 pub mod Ways

@@ -29,9 +29,9 @@ use Rattle.md_read_commands.specs.declared.gaps.Gaps.{Gaps}
 use Rattle.md_read_commands.specs.declared.reader.ArrayReader.{ArrayReader}
 use Rattle.md_read_commands.specs.declared.way.Way.{Way}
 use Rattle.md_read_commands.specs.declared.way.Way.TheVariants.{Resynced, Unresynced}
-use Rattle.md_read_commands.specs.Filling.{IsFilled, IsFirstGap, IsNotGiven}
+use Rattle.md_read_commands.specs.Filling.{IsFilled, IsFirstGap}
 use Rattle.md_read_commands.specs.Gaps.{IsGap, capacity_of, no_gaps}
-use Rattle.md_read_commands.specs.Others.{IsTakenFromOther}
+use Rattle.md_read_commands.specs.Others.{IsNotGiven, IsTakenFromOther}
 use Rattle.md_read_commands.specs.Ways.{ReadsBy}
 use Rattle.md_nbd.specs.declared.server.store.StoreFault.{StoreFault}
 use Rattle.md_nbd.specs.declared.server.store.StoreFault.TheVariants.{NoMemory}
@@ -47,8 +47,9 @@ lacks_rests way sector sectors old new h =
 
 -- another member gave it
 taken_not_given : (way : Way) (s : ℕ) (block : List ℕ) (old new : MirrorView) → IsTakenFromOther way s block old new → IsNotGiven way s old new
-taken_not_given Resynced s block old new taken = absurd taken
-taken_not_given Unresynced s block old new taken = inr (taken.0, taken.1)
+taken_not_given Resynced s block old new taken = taken.not_given
+taken_not_given Unresynced s block old new (inl taken) = inr (taken.0, taken.1)
+taken_not_given Unresynced s block old new (inr taken) = taken.not_given
 
 -- it was filled, and not noted beside those before
 pub lacks_gap : (way : Way) (sector : ℕ) (bytes : List ℕ) (gaps : Gaps) (old new : MirrorView) → IsFilled way sector bytes gaps old new → (s : ℕ) → IsGap gaps s

@@ -1,5 +1,6 @@
 -- Sectors of the array are read and put out with zeros in the place of those that nobody gives. Of an array that is not resynced, what
--- another member has is put out in the place of those that the member does not give from which a resync would copy them.
+-- another member has is put out in the place of those that the member does not give from which a resync would copy them; and of any array
+-- what a member has whose superblock was made in memory, in the place of those that no member in sync gives.
 use Rattle.std.specs.Prelude.{◌^◌, ◌≡◌, ◌⊎◌, ◌↔◌, ℕ, ◌+◌, ◌*◌, ◌-◌, ◌/◌, ◌%◌, ◌<◌, ◌≤◌, Bool, true, false, List, length, replicate, take, Option, Some, None, Result, Ok, Err, MatchResult}
 use Rattle.md_badblocks.specs.declared.run.Run.{Run}
 use Rattle.md_badblocks.specs.Runs.{IsBad}
@@ -11,7 +12,6 @@ use Rattle.md_examine.specs.Sink.{Puts}
 use Rattle.md_read.specs.declared.fault.UnreadFault.{UnreadFault}
 use Rattle.md_read.specs.declared.fault.UnreadFault.TheVariants.{Halted, NotResynced, OutOfRange, Unreadable}
 use Rattle.md_read.specs.Reading.{HasReadFailed, NoneGives}
-use Rattle.md_read.specs.Unresynced.{NoneGivesPart, SourceFails}
 use Rattle.md_kept_members.specs.View.{MemberView}
 use Rattle.md_state.specs.Steps.CopyData.{Lists}
 use Rattle.md_state.specs.Members.{IsInSync}
@@ -23,10 +23,10 @@ use Rattle.md_commands.specs.declared.fault.CommandFault.{CommandFault}
 use Rattle.md_commands.specs.declared.fault.CommandFault.TheVariants.{NoPieceMemory, OutputFault, Read, Resync}
 use Rattle.md_read_commands.specs.declared.gaps.Gaps.{Gaps}
 use Rattle.md_read_commands.specs.declared.way.Way.{Way}
-use Rattle.md_read_commands.specs.declared.way.Way.TheVariants.{Resynced, Unresynced}
+use Rattle.md_read_commands.specs.declared.way.Way.TheVariants.{Resynced}
 use Rattle.md_commands.specs.Output.{PutsOut}
 use Rattle.md_read_commands.specs.Gaps.{AreFit, HasNoGaps, HasSomeGapsOf, IsGap, IsKeptAt, IsSameAt, no_gaps}
-use Rattle.md_read_commands.specs.Others.{IsGivenByNoOther, IsGivenByOther, IsTakenFromOther}
+use Rattle.md_read_commands.specs.Others.{IsGivenByNoOther, IsGivenByOther, IsNotGiven, IsTakenFromOther}
 use Rattle.md_read_commands.specs.Reading.{IsReadyTo, RefusesReady}
 use Rattle.md_read_commands.specs.Ways.{ReadsBy}
 
@@ -35,11 +35,6 @@ unfoldable pub zeros : List ℕ
 zeros = replicate 512 0
 
 -- ---- what is read
--- No member in sync gave the sector. Of an array that is not resynced: or the member from which a resync would copy it could not be read.
-abbrev pub IsNotGiven : Way → ℕ → MirrorView → MirrorView → Type 0
-IsNotGiven Resynced s old new = NoneGives s old new
-IsNotGiven Unresynced s old new = NoneGivesPart s old new ⊎ ((k : ℕ) × SourceFails k s old new)
-
 module _ (way : Way) where
   -- A read gave the sector these bytes, and others perhaps with it. It was done between the two.
   pub record IsGivenByRead (s : ℕ) (block : List ℕ) (old new : MirrorView) : Type 0 where
@@ -90,14 +85,14 @@ module _ (way : Way) where
     pub filled : IsFilled sector bytes gaps old new
 
 -- What is read of a resynced array so is its content: where devices do what they answer, and the members in sync hold a content at rest,
--- these are its bytes in each sector that is not missing and that no request in flight touches. No sector of it is another's.
+-- these are its bytes in each sector that was given and that no request in flight touches.
 abbrev pub FillsContent : Type 0
 FillsContent =
     (sector : ℕ) (bytes : List ℕ) (gaps : Gaps) (old new : MirrorView)
     → FillsSectors Resynced sector bytes gaps old new
     → AreHonest old.disks → (requests : ℕ → Option Request) → AreInFlight old.array requests
     → (a : Content) → HoldsAtRest (geometry_of old.array) a (world_of old requests)
-    → (i : ℕ) → i < length bytes / 512 → (IsBad gaps.missing (sector + i) → ⊥)
+    → (i : ℕ) → i < length bytes / 512 → (IsGap gaps (sector + i) → ⊥)
     → IsQuiet (world_of old requests) (sector + i)
     → held bytes i 512 ≡ a (sector + i)
 

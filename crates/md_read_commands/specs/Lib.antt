@@ -2,9 +2,11 @@
 pub mod AsResynced
 -- Sectors of the array are read and put out with zeros in the place of those that nobody gave.
 pub mod Filling
+-- A device of which the first sectors stand in memory.
+pub mod Fronted
 -- Which sectors were not given in the way in which they were read.
 pub mod Gaps
--- A sector is read from another member than the one from which a resync would copy it.
+-- A sector is read from another member than the one from which a resync would copy it, or from one whose superblock was made in memory.
 pub mod Others
 -- Sectors of the array are read and put out piece by piece.
 pub mod Pieces
@@ -12,5 +14,7 @@ pub mod Pieces
 pub mod Reading
 -- An array is served to a client of the NBD protocol.
 pub mod Serving
+-- A member whose superblock was made in memory, since its own can't be read.
+pub mod StandIn
 -- How sectors of an array are read.
 pub mod Ways

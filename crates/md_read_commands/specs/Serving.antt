@@ -21,7 +21,8 @@ use Rattle.md_nbd.specs.Server.Sessions.{BreaksSession, EndsSession, is_orderly}
 use Rattle.md_read_commands.specs.declared.gaps.Gaps.{Gaps}
 use Rattle.md_read_commands.specs.declared.reader.ArrayReader.{ArrayReader}
 use Rattle.md_read_commands.specs.declared.way.Way.{Way}
-use Rattle.md_read_commands.specs.Filling.{IsFilled, IsLeastGap, IsNotGiven}
+use Rattle.md_read_commands.specs.Filling.{IsFilled, IsLeastGap}
+use Rattle.md_read_commands.specs.Others.{IsNotGiven}
 use Rattle.md_read_commands.specs.Gaps.{HasBothGaps, HasNoGaps, HasSameRoom, IsGap, capacity_of}
 use Rattle.md_read_commands.specs.Reading.{IsReadyTo, RefusesReady}
 use Rattle.md_read_commands.specs.Ways.{IsFor, ReadsBy}

@@ -25,9 +25,11 @@ mod pieces;
 mod reader;
 mod reading;
 mod serving;
+mod stand_in;
 mod way;
 
 pub use fill_watch::FillWatch;
 pub use gaps::Gaps;
 pub use reading::{first_gap, has_put_all, read_array, read_array_filled, read_array_readonly};
 pub use serving::serve_array;
+pub use stand_in::{FrontedDevice, StandIn, front_each, put_stand_in};

@@ -20,7 +20,7 @@ use Rattle.clap.specs.declared.builder.range.ValueRange.{ValueRange}
 use Rattle.std.specs.Borrow.{Bor}
 use Rattle.clap.specs.declared.builder.texts.Texts.TheVariants.{One}
 use Rattle.md_words.specs.Words.{mdcli, with_aliases}
-use Rattle.md_words.specs.Parsing.{ask_found, ask_named, bitmap_found, bitmap_in, images_found, map_out_found, map_out_in, maps_found, output_found, output_in, verbose_found, verbose_in}
+use Rattle.md_words.specs.Parsing.{ask_found, ask_named, bitmap_found, bitmap_in, data_of_found, data_of_in, images_found, map_out_found, map_out_in, maps_found, output_found, output_in, verbose_found, verbose_in}
 
 pub some_is : {X : Type 0} (o : Option X) (x : X) → IsSomeAnd o (λ r. r ≡ x) → o ≡ Some x
 some_is None x h = absurd h
@@ -95,6 +95,10 @@ output_read m name f is = sym (ap output_found is)
 -- the kind of the bitmap that is named
 pub bitmap_read : (m : ArgMatches) (name : Text) (f : Found) → subcommand_rows_of m ≡ Some (name, rows_of f) → bitmap_in (rows_of f) ≡ bitmap_found (subcommand_rows_of m)
 bitmap_read m name f is = sym (ap bitmap_found is)
+
+-- the image that counts as a device of the array
+pub data_of_read : (m : ArgMatches) (name : Text) (f : Found) → subcommand_rows_of m ≡ Some (name, rows_of f) → data_of_in (rows_of f) ≡ data_of_found (subcommand_rows_of m)
+data_of_read m name f is = sym (ap data_of_found is)
 
 -- what a subcommand's name and matches ask for
 pub asks_read : (m : ArgMatches) (name : Text) (f : Found) → subcommand_rows_of m ≡ Some (name, rows_of f) → ask_named name (rows_of f) ≡ ask_found (subcommand_rows_of m)

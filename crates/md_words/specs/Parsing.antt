@@ -154,6 +154,14 @@ abbrev pub bitmap_found : Option (Text × List Row) → Option Text
 bitmap_found None = None
 bitmap_found (Some p) = bitmap_in p.1
 
+-- the image that counts as a device of the array
+abbrev pub data_of_in : List Row → Option Text
+data_of_in rows = first_of (codes "data-of") rows
+
+abbrev pub data_of_found : Option (Text × List Row) → Option Text
+data_of_found None = None
+data_of_found (Some p) = data_of_in p.1
+
 -- the place among images of the first of this name; 2^32 - 1 stands for all that are greater, at which no array has a member
 abbrev pub place_in : List Text → Text → Option ℕ
 place_in images name =
@@ -274,6 +282,10 @@ output_word words = output_found (subcommand_of mdcli words)
 unfoldable pub bitmap_word : List Text → Option Text
 bitmap_word words = bitmap_found (subcommand_of mdcli words)
 
+-- the image that counts as a device of the array, with its number
+unfoldable pub data_of_word : List Text → Option Text
+data_of_word words = data_of_found (subcommand_of mdcli words)
+
 -- whether the words ask that a read which was interrupted goes on
 unfoldable pub resumes : List Text → Bool
 resumes words = resume_found (subcommand_of mdcli words)
@@ -338,10 +350,20 @@ abbrev pub names_bitmap_alone : Text → List Row → Bool
 names_bitmap_alone name rows =
     is_some (bitmap_in rows) && not (readonly_in rows) && not (bytes_eq name (codes "grow"))
 
+-- whether a command puts out sectors
+abbrev pub puts_sectors : Text → Bool
+puts_sectors name = bytes_eq name (codes "read") || bytes_eq name (codes "serve")
+
+-- whether an image is to count as a device where images may be changed, or where sectors that no other gives end a read
+abbrev pub names_data_of_alone : Text → List Row → Bool
+names_data_of_alone name rows =
+    is_some (data_of_in rows) && (not (readonly_in rows) || puts_sectors name && not (fill_in rows))
+
 -- whether an option is named without one that it needs
 abbrev pub lacks_option : Text → List Row → Bool
 lacks_option name rows =
-    names_map_alone rows || resumes_alone rows || names_bitmap_alone name rows || needs_readonly name rows
+    names_map_alone rows || resumes_alone rows || names_bitmap_alone name rows
+    || names_data_of_alone name rows || needs_readonly name rows
 
 abbrev pub option_fault : Option (Text × List Row) → Kinds
 option_fault None = []

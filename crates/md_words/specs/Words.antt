@@ -76,9 +76,13 @@ scan_app = completed (with_readonly (with_json (new_app (codes "scan"))))
 abbrev pub with_bitmap_option : App → App
 with_bitmap_option a = with_rule a (value_rule (codes "bitmap"))
 
+-- A command that may be asked to count an image as a device of the array.
+abbrev pub with_data_of : App → App
+with_data_of a = with_rule a (value_rule (codes "data-of"))
+
 -- A command that shows an array, the plan of a rebuild, or sectors, or compares the members.
 abbrev pub with_images : App → App
-with_images a = completed (with_bitmap_option (with_map (with_readonly a)))
+with_images a = completed (with_data_of (with_bitmap_option (with_map (with_readonly a))))
 
 abbrev pub array_app : Text → App
 array_app name = with_images (with_json (new_app name))

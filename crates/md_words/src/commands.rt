@@ -268,6 +268,15 @@ const BITMAP_IN_MEMORY: OptionWords = OptionWords {
     default: None,
 };
 
+const DATA_OF: OptionWords = OptionWords {
+    name: "data-of",
+    value: "IMAGE=NUMBER",
+    help: "With --readonly: the image is the device of this number in the array, though its superblock or bitmap can't be read; with --fill it is read where no other gives a sector",
+    kind: Kind::Text,
+    required: false,
+    default: None,
+};
+
 const SIZE: OptionWords = OptionWords {
     name: "size",
     value: "SIZE",
@@ -396,21 +405,21 @@ pub(crate) const ARRAY_COMMANDS: [CommandWords; 5] = [
         aliases: &[],
         about: "Shows in a line what array the images make; may store marks",
         after_help: help::ARRAY,
-        options: &[JSON, READONLY, MAP, BITMAP_IN_MEMORY],
+        options: &[JSON, READONLY, MAP, BITMAP_IN_MEMORY, DATA_OF],
     },
     CommandWords {
         name: "detail",
         aliases: &["--detail", "-D"],
         about: "Shows the array that the images make; may store marks",
         after_help: help::DETAIL,
-        options: &[JSON, READONLY, MAP, BITMAP_IN_MEMORY],
+        options: &[JSON, READONLY, MAP, BITMAP_IN_MEMORY, DATA_OF],
     },
     CommandWords {
         name: "plan",
         aliases: &[],
         about: "Shows the plan of a member's rebuild, in the fewest rounds; may store marks",
         after_help: help::PLAN,
-        options: &[MEMBER, JSON, READONLY, MAP, BITMAP_IN_MEMORY],
+        options: &[MEMBER, JSON, READONLY, MAP, BITMAP_IN_MEMORY, DATA_OF],
     },
 ];
 
@@ -431,6 +440,7 @@ pub(crate) const DATA_COMMANDS: [CommandWords; 6] = [
             READONLY,
             MAP,
             BITMAP_IN_MEMORY,
+            DATA_OF,
         ],
     },
     CommandWords {
@@ -438,7 +448,13 @@ pub(crate) const DATA_COMMANDS: [CommandWords; 6] = [
         aliases: &[],
         about: "Serves the array as a network block device, and stops it",
         after_help: help::SERVE,
-        options: &[FILL_SERVED, ONLY_READ, MAP_SERVED, BITMAP_IN_MEMORY],
+        options: &[
+            FILL_SERVED,
+            ONLY_READ,
+            MAP_SERVED,
+            BITMAP_IN_MEMORY,
+            DATA_OF,
+        ],
     },
     CommandWords {
         name: "write",
@@ -452,7 +468,15 @@ pub(crate) const DATA_COMMANDS: [CommandWords; 6] = [
         aliases: &[],
         about: "Counts the chunks in which members in sync differ; may store marks",
         after_help: help::CHECK,
-        options: &[LIST, EXIT_CODE, JSON, READONLY, MAP, BITMAP_IN_MEMORY],
+        options: &[
+            LIST,
+            EXIT_CODE,
+            JSON,
+            READONLY,
+            MAP,
+            BITMAP_IN_MEMORY,
+            DATA_OF,
+        ],
     },
     CommandWords {
         name: "resync",

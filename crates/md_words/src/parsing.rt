@@ -4,7 +4,7 @@ ghost use Rattle.std.specs.Str.{bytes_eq};
 ghost use Rattle.clap.specs.Words.{FailsBy, fault_of, first_of, found_of, matched_of, raw_values, rows_of, subcommand_of, subcommand_rows_of};
 ghost use Rattle.md_words.specs.Words.{mdcli};
 ghost use Rattle.md_words.specs.Numbers.{number_or_zero};
-ghost use Rattle.md_words.specs.Parsing.{all_in, ask_found, ask_named, ask_to_change, asked, bitmap_found, bitmap_in, bitmap_word, check_form_in, chunk_in, command_fault, count_in, detail_form_in, exit_code_in, fill_in, full_in, has_maps, image_form_in, image_words, images_found, is_no_size, is_verbose, json_in, lacks_option, list_in, loss_in, map_out_found, map_out_in, map_out_word, map_words, maps_found, member_at, member_fault, member_in, member_named, names_bitmap_alone, names_map_alone, names_no_member, names_no_sectors, names_no_size, needs_readonly, option_fault, options_in, output_found, output_in, output_word, place_in, quiet_in, readonly_in, rebuild_form_in, resume_found, resume_in, resumes, resumes_alone, run_found, run_in, runs, salvage_in, sector_in, sectors_or_zero, serve_in, size_fault, size_in, text_in, uuid_in, value_fault, verbose_found, verbose_in, words_fault};
+ghost use Rattle.md_words.specs.Parsing.{all_in, ask_found, ask_named, ask_to_change, asked, bitmap_found, bitmap_in, bitmap_word, check_form_in, chunk_in, command_fault, count_in, data_of_found, data_of_in, data_of_word, detail_form_in, exit_code_in, fill_in, full_in, has_maps, image_form_in, image_words, images_found, is_no_size, is_verbose, json_in, lacks_option, list_in, loss_in, map_out_found, map_out_in, map_out_word, map_words, maps_found, member_at, member_fault, member_in, member_named, names_bitmap_alone, names_data_of_alone, names_map_alone, names_no_member, names_no_sectors, names_no_size, needs_readonly, option_fault, options_in, output_found, output_in, output_word, place_in, puts_sectors, quiet_in, readonly_in, rebuild_form_in, resume_found, resume_in, resumes, resumes_alone, run_found, run_in, runs, salvage_in, sector_in, sectors_or_zero, serve_in, size_fault, size_in, text_in, uuid_in, value_fault, verbose_found, verbose_in, words_fault};
 ghost use Rattle.md_words.specs.Asks.{ask_of, options_of};
 
 use crate::array_command::ArrayCommand;
@@ -239,6 +239,13 @@ fn bitmap_of<'a>(found: &ArgMatches<'a>) -> Option<&'a str>
     found.get_str("bitmap")
 }
 
+// The image that counts as a device of the array.
+fn data_of_of<'a>(found: &ArgMatches<'a>) -> Option<&'a str>
+    ensures { option_map (λ s. s.now) result ≡ data_of_in (rows_of (found_of found.now)) }
+{
+    found.get_str("data-of")
+}
+
 // Whether a read that was interrupted is to go on.
 fn is_resume(found: &ArgMatches<'_>) -> bool
     ensures { result ≡ resume_in (rows_of (found_of found.now)) }
@@ -463,6 +470,8 @@ fn request_of<'a>(alloc: Global, matches: &ArgMatches<'a>) -> Result<Request<'a>
         (λ r. option_map (λ s. s.now) r.output ≡ output_found (subcommand_rows_of matches.now)) }
     ensures bitmap { IfOk result
         (λ r. option_map (λ s. s.now) r.bitmap ≡ bitmap_found (subcommand_rows_of matches.now)) }
+    ensures data_of { IfOk result
+        (λ r. option_map (λ s. s.now) r.data_of ≡ data_of_found (subcommand_rows_of matches.now)) }
     ensures resume { IfOk result (λ r. r.resume ≡ resume_found (subcommand_rows_of matches.now)) }
     ensures verbose { IfOk result (λ r. r.verbose ≡ verbose_found (subcommand_rows_of matches.now)) }
     ensures run { IfOk result (λ r. r.run ≡ run_found (subcommand_rows_of matches.now)) }
@@ -477,6 +486,7 @@ fn request_of<'a>(alloc: Global, matches: &ArgMatches<'a>) -> Result<Request<'a>
             map_out: None,
             output: None,
             bitmap: None,
+            data_of: None,
             resume: false,
             verbose: false,
             run: false,
@@ -491,6 +501,7 @@ fn request_of<'a>(alloc: Global, matches: &ArgMatches<'a>) -> Result<Request<'a>
         map_out: map_out_of(found),
         output: output_of(found),
         bitmap: bitmap_of(found),
+        data_of: data_of_of(found),
         resume: is_resume(found),
         verbose: is_verbose(found),
         run: is_run(found),
@@ -628,6 +639,20 @@ fn names_bitmap_alone(name: &str, found: &ArgMatches<'_>) -> bool
     bitmap_of(found).is_some() && !is_readonly(found) && name != "grow"
 }
 
+// Whether a command puts out sectors.
+fn puts_sectors(name: &str) -> bool
+    ensures { result ≡ puts_sectors name.now }
+{
+    name == "read" || name == "serve"
+}
+
+// Whether an image is to count as a device where images may be changed, or where sectors that no other gives end a read.
+fn names_data_of_alone(name: &str, found: &ArgMatches<'_>) -> bool
+    ensures { result ≡ names_data_of_alone name.now (rows_of (found_of found.now)) }
+{
+    data_of_of(found).is_some() && (!is_readonly(found) || puts_sectors(name) && !is_fill(found))
+}
+
 // Whether a read is to go on that changes images, or of which a file is not named.
 fn resumes_alone(found: &ArgMatches<'_>) -> bool
     ensures { result ≡ resumes_alone (rows_of (found_of found.now)) }
@@ -643,6 +668,7 @@ fn lacks_option(name: &str, found: &ArgMatches<'_>) -> bool
     names_map_alone(found)
         || resumes_alone(found)
         || names_bitmap_alone(name, found)
+        || names_data_of_alone(name, found)
         || needs_readonly(name, found)
 }
 
@@ -654,6 +680,8 @@ fn option_message(name: &str, found: &ArgMatches<'_>) -> &'static str {
         "the argument '--resume' requires '--readonly', '--output <FILE>' and '--map-out <FILE>'"
     } else if names_bitmap_alone(name, found) {
         "the argument '--bitmap <internal>' requires '--readonly'"
+    } else if names_data_of_alone(name, found) {
+        "the argument '--data-of <IMAGE=NUMBER>' requires '--readonly', and '--fill' where sectors are read"
     } else {
         "the arguments '--fill' and '--map <IMAGE=FILE>' require '--readonly'"
     }
@@ -687,7 +715,7 @@ fn check_command(alloc: Global, matches: &ArgMatches<'_>) -> Result<(), Error>
 }
 
 /// What the words ask for, or why the words are not taken.
-#[tactic(auto, unfolding(crate::specs::Parsing::image_words, crate::specs::Parsing::map_words, crate::specs::Parsing::map_out_word, crate::specs::Parsing::output_word, crate::specs::Parsing::bitmap_word, crate::specs::Parsing::resumes, crate::specs::Parsing::asked, crate::specs::Parsing::is_verbose, crate::specs::Parsing::runs, crate::specs::Parsing::words_fault))]
+#[tactic(auto, unfolding(crate::specs::Parsing::image_words, crate::specs::Parsing::map_words, crate::specs::Parsing::map_out_word, crate::specs::Parsing::output_word, crate::specs::Parsing::bitmap_word, crate::specs::Parsing::data_of_word, crate::specs::Parsing::resumes, crate::specs::Parsing::asked, crate::specs::Parsing::is_verbose, crate::specs::Parsing::runs, crate::specs::Parsing::words_fault))]
 pub fn parse<'a>(alloc: Global, words: &'a [&'a str]) -> Result<Request<'a>, Error>
     ensures asks { IfOk result (λ r. ask_of r.command ≡ asked (map (λ s. s.now) words.entry.now)) }
     ensures images { IfOk result
@@ -700,6 +728,8 @@ pub fn parse<'a>(alloc: Global, words: &'a [&'a str]) -> Result<Request<'a>, Err
         (λ r. option_map (λ s. s.now) r.output ≡ output_word (map (λ s. s.now) words.entry.now)) }
     ensures bitmap { IfOk result
         (λ r. option_map (λ s. s.now) r.bitmap ≡ bitmap_word (map (λ s. s.now) words.entry.now)) }
+    ensures data_of { IfOk result
+        (λ r. option_map (λ s. s.now) r.data_of ≡ data_of_word (map (λ s. s.now) words.entry.now)) }
     ensures resume { IfOk result (λ r. r.resume ≡ resumes (map (λ s. s.now) words.entry.now)) }
     ensures verbose { IfOk result (λ r. r.verbose ≡ is_verbose (map (λ s. s.now) words.entry.now)) }
     ensures run { IfOk result (λ r. r.run ≡ runs (map (λ s. s.now) words.entry.now)) }

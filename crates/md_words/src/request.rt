@@ -14,6 +14,8 @@ pub struct Request<'a> {
     pub output: Option<&'a str>,
     /// The kind of the bitmap that the members get; by a command that opens the array, only in memory, and where they have none.
     pub bitmap: Option<&'a str>,
+    /// The image that counts as a device of the array though its superblock can't be read, as `IMAGE=NUMBER`.
+    pub data_of: Option<&'a str>,
     /// A read that was interrupted goes on, into the files that it made.
     pub resume: bool,
     /// More is to be said of a refusal.

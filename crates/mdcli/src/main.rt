@@ -35,13 +35,13 @@ use crate::random::bytes_if_needed;
 use crate::standard_input::bytes_left_if_taken;
 use clap::Error;
 use md_badblocks::BadSet;
-use md_cli::{Session, run};
+use md_cli::{Session, run, stand_in_of};
 use md_commands::Input;
 use md_examine::{Buffered, Sink};
 use md_files::{Cleared, CodedJson, Line, MapText};
 use md_messages::Messages;
 use md_outputs::{Names, identity_of, resumed_of};
-use md_read_commands::Gaps;
+use md_read_commands::{Gaps, StandIn};
 use md_words::{LongTask, Request, parse};
 use std::alloc::{AllocError, Global};
 use std::fs::File;
@@ -269,6 +269,7 @@ fn session_over<'b, S: Sink + Drop, F>(
         gaps: earlier,
         is_all_out: false,
         stands,
+        stand_in: stand_in_if_asked(parsed),
         mismatched: None,
         lacking,
     }
@@ -284,6 +285,14 @@ fn put_out_by<S: Sink + Drop>(session: FileSession<'_, S>) -> (Outputs<'_, S>, O
     } = session;
     let of_all = if is_all_out { gaps } else { None };
     (out.into_inner().into_inner(), of_all)
+}
+
+// The image that counts as a device of the array, where the words ask for that.
+fn stand_in_if_asked<E>(parsed: &Result<Request<'_>, E>) -> Option<StandIn> {
+    match parsed {
+        Ok(request) => stand_in_of(request),
+        Err(_) => None,
+    }
 }
 
 // Shows of which arrays all block devices are members.

@@ -4,6 +4,8 @@ use Rattle.md_array.specs.declared.fault.OpenFault.{OpenFault}
 use Rattle.md_array.specs.declared.fault.OpenFault.TheVariants as open_fault
 use Rattle.md_assembly.specs.declared.fault.AssembleFault.{AssembleFault}
 use Rattle.md_assembly.specs.declared.fault.AssembleFault.TheVariants as assemble
+use Rattle.md_commands.specs.declared.data_of_fault.DataOfFault.{DataOfFault}
+use Rattle.md_commands.specs.declared.data_of_fault.DataOfFault.TheVariants as data_of
 use Rattle.md_commands.specs.declared.option_fault.OptionFault.{OptionFault}
 use Rattle.md_commands.specs.declared.option_fault.OptionFault.TheVariants as option
 use Rattle.md_create.specs.declared.fault.CreateFault.{CreateFault}
@@ -51,6 +53,17 @@ grow_text (grow.NotInSync k) = codes "NotInSync " ++ decimal k
 grow_text (grow.MetadataFault k) = codes "MetadataFault " ++ decimal k
 grow_text grow.NoMemory = codes "NoMemory"
 
+abbrev pub data_of_text : DataOfFault → List ℕ
+data_of_text data_of.BadDataOf = codes "BadDataOf"
+data_of_text data_of.NoArrayBeside = codes "NoArrayBeside"
+data_of_text (data_of.NumberTaken k) = codes "NumberTaken " ++ decimal k
+data_of_text data_of.NumberNotInSync = codes "NumberNotInSync"
+data_of_text data_of.HasSuperblock = codes "HasSuperblock"
+data_of_text data_of.DataElsewhere = codes "DataElsewhere"
+data_of_text data_of.LogUnread = codes "LogUnread"
+data_of_text data_of.DataPastEnd = codes "DataPastEnd"
+data_of_text data_of.NoMemory = codes "NoMemory"
+
 abbrev pub option_text : OptionFault → List ℕ
 option_text option.BadLevel = codes "BadLevel"
 option_text option.BadUuid = codes "BadUuid"
@@ -59,3 +72,4 @@ option_text option.BadCount = codes "BadCount"
 option_text option.BadBitmap = codes "BadBitmap"
 option_text option.BadChunk = codes "BadChunk"
 option_text option.BadSize = codes "BadSize"
+option_text (option.DataOf why) = data_of_text why

@@ -3,7 +3,7 @@ use crate::advice::geometry_advice::SMALLEST_IMAGE;
 use md_array::{AddFault, BeginFault, FailFault, OpenFault, ReAddFault, RemoveFault};
 use md_assembly::AssembleFault;
 use md_check::CheckFault;
-use md_commands::{CommandFault, OptionFault};
+use md_commands::{CommandFault, DataOfFault, OptionFault};
 use md_copy::RebuildFault;
 use md_create::CreateFault;
 use md_members::MemberFault;
@@ -267,6 +267,37 @@ fn option_advice(fault: OptionFault) -> &'static str {
         OptionFault::BadBitmap => "fix the option: only `internal` is given",
         OptionFault::BadChunk => "choose a smaller chunk, below 4,194,304 KiB",
         OptionFault::BadSize => "choose a smaller size",
+        OptionFault::DataOf(fault) => data_of_advice(fault),
+    }
+}
+
+fn data_of_advice(fault: DataOfFault) -> &'static str {
+    match fault {
+        DataOfFault::BadDataOf => {
+            "fix the option: `--data-of IMAGE=NUMBER`, with the image as it is listed, and a number that `examine --all` of another image shows, as the 1 of `Role : 0 of device 1`"
+        }
+        DataOfFault::NoArrayBeside => {
+            "give the command without that image and the option first, and set right what it is refused for; an array without a bitmap gets one by `grow`, on copies: `--bitmap` is not enough here"
+        }
+        DataOfFault::NumberTaken(_) => {
+            "it is the device of that number: give the number that no image has, of those that `examine --all` of another image shows, as the 1 of `Role : 0 of device 1`"
+        }
+        DataOfFault::NumberNotInSync => {
+            "see whether `examine --all` of another image shows a role of that number, as `Role : 0 of device 1`; if so, leave the image of `--data-of` out: it failed, left or was not rebuilt, and its data may be old; only where `examine --all` shows more events of it than of the others they are the old ones"
+        }
+        DataOfFault::HasSuperblock => {
+            "leave the option out; where the image is refused without it, `examine --all` shows of which array it is, and its number"
+        }
+        DataOfFault::DataElsewhere => {
+            "leave the image of `--data-of` out, or take its data by hand (docs/RECOVER.md): they begin at the Data Offset that `examine --all` shows of it"
+        }
+        DataOfFault::LogUnread => {
+            "let ddrescue try that part of the disk again; else leave the image of `--data-of` out, or take its data by hand (docs/RECOVER.md): what its log listed as bad may be old data there"
+        }
+        DataOfFault::DataPastEnd => {
+            "the copy was cut, or its data begin elsewhere than those of the others: copy it again, or leave it out"
+        }
+        DataOfFault::NoMemory => MORE_MEMORY,
     }
 }
 

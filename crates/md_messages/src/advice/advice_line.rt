@@ -6,7 +6,7 @@ use crate::advice::geometry_advice::geometry_advice;
 use md_array::{AddFault, BeginFault, OpenFault, ReAddFault};
 use md_assembly::AssembleFault;
 use md_check::CheckFault;
-use md_commands::CommandFault;
+use md_commands::{CommandFault, DataOfFault, OptionFault};
 use md_copy::RebuildFault;
 use md_create::CreateFault;
 use md_examine::{Output, put_name};
@@ -34,6 +34,9 @@ fn culprit_of(fault: &CommandFault) -> Option<Culprit> {
     match fault {
         CommandFault::BadImage(word, _) => Some(Culprit::Word(*word)),
         CommandFault::MetadataFault(word) => Some(Culprit::Word(*word)),
+        CommandFault::Options(OptionFault::DataOf(DataOfFault::NumberTaken(word))) => {
+            Some(Culprit::Word(*word))
+        }
         CommandFault::Member(_) | CommandFault::NoBitmap => Some(Culprit::Word(0)),
         CommandFault::Open(fault) => culprit_of_opening(*fault),
         CommandFault::Grow(fault) => culprit_of_growth(*fault),

@@ -2,12 +2,12 @@
 ghost use Rattle.std.specs.Prelude.{◌++◌};
 ghost use Rattle.md_examine.specs.Sink.{PutsOrFails};
 ghost use Rattle.md_messages.specs.FaultText.Members.{member_refusal_text};
-ghost use Rattle.md_messages.specs.FaultText.Openings.{assemble_text, create_text, double_number_text, grow_text, open_refusal_text, option_text, unread_member_text};
+ghost use Rattle.md_messages.specs.FaultText.Openings.{assemble_text, create_text, data_of_text, double_number_text, grow_text, open_refusal_text, option_text, unread_member_text};
 
 use crate::fault_text::members::put_member;
 use md_array::OpenFault;
 use md_assembly::AssembleFault;
-use md_commands::OptionFault;
+use md_commands::{DataOfFault, OptionFault};
 use md_create::CreateFault;
 use md_examine::{Sink, SinkFault, number_after};
 use md_members::MemberFault;
@@ -100,7 +100,7 @@ pub(crate) fn put_grow<S: Sink>(out: &mut S, fault: GrowFault) -> Result<(), Sin
     }
 }
 
-/// Puts out why `create` or `grow` refuses its options.
+/// Puts out why a command refuses its options.
 pub(crate) fn put_option<S: Sink>(out: &mut S, fault: OptionFault) -> Result<(), SinkFault>
     ensures { PutsOrFails S.contents S.failed out.old out.new (option_text fault) result }
 {
@@ -112,5 +112,23 @@ pub(crate) fn put_option<S: Sink>(out: &mut S, fault: OptionFault) -> Result<(),
         OptionFault::BadBitmap => out.put(b"BadBitmap"),
         OptionFault::BadChunk => out.put(b"BadChunk"),
         OptionFault::BadSize => out.put(b"BadSize"),
+        OptionFault::DataOf(fault) => put_data_of(out, fault),
+    }
+}
+
+// Puts out why `--data-of` is refused.
+fn put_data_of<S: Sink>(out: &mut S, fault: DataOfFault) -> Result<(), SinkFault>
+    ensures { PutsOrFails S.contents S.failed out.old out.new (data_of_text fault) result }
+{
+    match fault {
+        DataOfFault::BadDataOf => out.put(b"BadDataOf"),
+        DataOfFault::NoArrayBeside => out.put(b"NoArrayBeside"),
+        DataOfFault::NumberTaken(image) => number_after(out, b"NumberTaken ", image),
+        DataOfFault::NumberNotInSync => out.put(b"NumberNotInSync"),
+        DataOfFault::HasSuperblock => out.put(b"HasSuperblock"),
+        DataOfFault::DataElsewhere => out.put(b"DataElsewhere"),
+        DataOfFault::LogUnread => out.put(b"LogUnread"),
+        DataOfFault::DataPastEnd => out.put(b"DataPastEnd"),
+        DataOfFault::NoMemory => out.put(b"NoMemory"),
     }
 }
