@@ -3,7 +3,7 @@ ghost use Rattle.std.specs.Prelude.{◌≡◌, IfOk, None, false, is_err, option
 ghost use Rattle.clap.specs.Words.{FailsBy};
 ghost use Rattle.md_words.specs.Parsing.{asked, bitmap_word, image_words, words_fault};
 ghost use Rattle.md_words.specs.Asks.{ask_of, options_of, scan_form, tells_by_status};
-ghost use Rattle.md_messages.specs.Telling.{PutsTold, TellsNoticed, TellsRefusal, has_advice, refused_text, texts};
+ghost use Rattle.md_messages.specs.Telling.{PutsTold, TellsNoticed, TellsRefusal, has_advice, perhaps_listed_lines, refused_text, texts};
 ghost use Rattle.md_cli.specs.Running.{Obeys, MakesArray, RunsRefused, RunsScan, RunsTaken, differs, status_of};
 ghost use Rattle.md_cli.specs.Streams.{told_of};
 
@@ -21,8 +21,8 @@ use md_examine::Sink;
 use md_examine_commands::examine_images;
 use md_images::Images;
 use md_messages::{
-    Asker, Audience, Messages, Notices, advise, put_fault_line, put_gap_lines, put_refused,
-    put_told,
+    Asker, Audience, Messages, Notices, advise, put_fault_line, put_gap_lines, put_perhaps_listed,
+    put_refused, put_told,
 };
 use md_read_commands::Gaps;
 use md_words::{ArrayCommand, Command, CreateOptions, Request};
@@ -46,9 +46,9 @@ pub(crate) const REFUSED: u8 = 1;
 /// fails only then is tested, since no clause can tell whether memory was there.
 ///
 /// The session's input is read by `write` and `serve` alone. A refusal's line goes to `err`, as `mdcli: BadImage 0`, then for which
-/// sectors zeros were put out, and with advice further lines; so does the parser's text. Of a command that is done it is
-/// told what was noticed (`Noticed.antt` in the specs of `md_messages`), in lines whose text and order are in `Telling.antt`
-/// beside it. Where one can't be written, nothing else changes. Of a refused one it is told last, where there is advice, of
+/// sectors zeros were put out and which members list more sectors as bad, and with advice further lines; so does the parser's text. Of a
+/// command that is done it is told what was noticed (`Noticed.antt` in the specs of `md_messages`), in lines whose text and order are in
+/// `Telling.antt` beside it. Where one can't be written, nothing else changes. Of a refused one it is told last, where there is advice, of
 /// whose words no clause speaks. The fault's line is `refusal_line` (`FaultText/Commands.antt` there).
 ///
 /// Where a command is refused whose report was to be a JSON object, the output gets a line for it: an object that says why
@@ -206,8 +206,8 @@ fn differs(mismatched: Option<u32>) -> bool
     }
 }
 
-// A refusal is said on `err`, and which sectors were put out otherwise; and no more where no advice is asked for. Else so is
-// what was noticed.
+// A refusal is said on `err`, which sectors were put out otherwise, and which members list more; and no more where no advice is asked
+// for. Else so is what was noticed.
 fn tell_refusal<E: Write + Sink>(
     fault: &CommandFault,
     command: Command<'_>,
@@ -225,7 +225,7 @@ fn tell_refusal<E: Write + Sink>(
     tell_more(fault, command, names, notices, audience, err);
 }
 
-// Where advice is asked for, what to do is said on `err`, and then what was noticed.
+// Where advice is asked for, what to do is said on `err`, and then what was noticed; else which members list more.
 fn tell_more<E: Write + Sink>(
     fault: &CommandFault,
     command: Command<'_>,
@@ -234,12 +234,14 @@ fn tell_more<E: Write + Sink>(
     audience: Audience,
     err: &mut E,
 )
-    ensures plain { has_advice audience.messages ≡ false → err.new ≡ err.old }
+    ensures plain { has_advice audience.messages ≡ false → PutsTold E.Sink err.old err.new
+        (perhaps_listed_lines (ask_of command.entry) (texts names.now) notices.now) }
     ensures last { has_advice audience.messages ≡ true → (mid : E)
         × PutsTold E.Sink mid err.new
         (refused_text audience (ask_of command.entry) (texts names.now) notices.now fault.now) }
 {
     if !audience.messages.has_advice() {
+        let _ = put_perhaps_listed(err, notices, command, names);
         return;
     }
     advise(fault, names, command, err);

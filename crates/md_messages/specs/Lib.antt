@@ -6,6 +6,8 @@ pub mod Noticed
 pub mod FaultText
 -- The question before a command is done.
 pub mod Question
+-- Lines of a command that is refused.
+pub mod RefusedLines
 -- What standard error is told of what was noticed.
 pub mod Telling
 -- What a terminal is shown and asked.

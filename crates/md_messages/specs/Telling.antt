@@ -30,6 +30,7 @@ use Rattle.md_messages.specs.Holding.{held_each}
 use Rattle.md_read_commands.specs.declared.gaps.Gaps.{Gaps}
 use Rattle.md_messages.specs.Missing.{gap_lines}
 use Rattle.md_messages.specs.Noticed.{asks_first, was_parted}
+use Rattle.md_messages.specs.RefusedLines.{failed_text, perhaps_listed_text}
 
 -- the texts of words
 abbrev pub texts : List (Bor Text) → List Text
@@ -194,8 +195,7 @@ first_unless audience ask names n = if audience.was_shown then [] else first_tex
 unfoldable pub noticed_text : Audience → Ask → List Text → Notices → List ℕ
 noticed_text audience ask names n =
     marked_lines names n ++ first_unless audience ask names n
-    ++ parted_lines (asked_member (overwritten_by ask) (asks_first ask n)) names n ++ unnamed_lines n ++
-    dropped_lines names n
+    ++ parted_lines (asked_member (overwritten_by ask) (asks_first ask n)) names n ++ unnamed_lines n
 
 abbrev pub lists_more : Notices → Bool
 lists_more n = list_any (λ count. is_some count) n.more_listed
@@ -238,33 +238,57 @@ lost_lines audience ask = []
 -- All that standard error is told of a command that is done.
 unfoldable pub told_text : Audience → Ask → List Text → Notices → List ℕ
 told_text audience ask names n =
-    noticed_text audience ask names n ++ listed_lines ask names n ++ loss_lines ask names n
-    ++ uncompared_lines ask names n ++ lost_lines audience ask
+    noticed_text audience ask names n ++ dropped_lines names n ++ listed_lines ask names n
+    ++ loss_lines ask names n ++ uncompared_lines ask names n ++ lost_lines audience ask
 
--- Of a command that is refused it is told too, after the fault and what to do. The image that was to be added has joined where the stop
--- is refused, or the report fails: they come after it.
+-- ---- What is said of a command that is refused.
+-- the line of a member of which a write failed
+abbrev pub failed_at : Notices → List Text → ℕ → List ℕ
+failed_at n = line_at failed_text n.dropped
+
+abbrev pub failed_lines : List Text → Notices → List ℕ
+failed_lines names n = flat_map (failed_at n names) (range_with_len 0 64)
+
+-- the line of one that lists more in memory
+abbrev pub perhaps_listed_line : Bool → Option ℕ → Text → List ℕ
+perhaps_listed_line by_chunks None name = []
+perhaps_listed_line by_chunks (Some count) name = perhaps_listed_text name by_chunks count
+
+abbrev pub perhaps_listed_at : Ask → Notices → List Text → ℕ → List ℕ
+perhaps_listed_at ask n names k =
+    line_of (perhaps_listed_line (loses_chunks (loss_of ask)) (get_or n.more_listed k None))
+    (member_name ask names k)
+
+abbrev pub perhaps_listed_lines : Ask → List Text → Notices → List ℕ
+perhaps_listed_lines ask names n = flat_map (perhaps_listed_at ask n names) (range_with_len 0 64)
+
+-- The image that was to be added has joined where the stop is refused, or the report fails: they come after it.
 abbrev pub has_joined : CommandFault → Bool
 has_joined (fault.Stop why) = true
 has_joined fault.OutputFault = true
 has_joined why = false
 
+-- All that standard error is told then after the fault and what to do.
 unfoldable pub refused_text : Audience → Ask → List Text → Notices → CommandFault → List ℕ
 refused_text audience ask names n why =
-    noticed_text audience ask names n ++ (if has_joined why then lost_lines audience ask else [])
+    noticed_text audience ask names n ++ failed_lines names n ++ perhaps_listed_lines ask names n
+    ++ (if has_joined why then lost_lines audience ask else [])
 
 -- The text was put out, or standard error has failed.
 abbrev pub PutsTold : {E : Type 0} → Ghosts E → E → E → List ℕ → Type 0
 PutsTold e old new text = Puts e.contents e.failed old new text ⊎ (e.failed new ≡ true)
 
--- What standard error is told of a command that is refused: the fault's line, which sectors were put out otherwise, and last what was
--- noticed, where more is told of a fault than its line. Before that it is told what to do, of which nothing is said here.
+-- What standard error is told of a command that is refused: the fault's line, which sectors were put out otherwise, and last which
+-- members list more; with what else was noticed, where more is told of a fault than its line. Before that it is told what to do, of
+-- which nothing is said here.
 pub record TellsRefusal {E : Type 0} (e : Ghosts E) (audience : Audience) (ask : Ask) (names : List Text)
     (gaps : Option Gaps) (old new : E) (why : CommandFault) (n : Notices) : Type 0 where
   pub told : E
   pub next : E
   pub line : PutsTold e old told (refusal_line why)
   pub lines : PutsTold e told next (gap_lines ask gaps)
-  pub plain : has_advice audience.messages ≡ false → new ≡ next
+  pub plain : has_advice audience.messages ≡ false
+      → PutsTold e next new (perhaps_listed_lines ask names n)
   pub last : has_advice audience.messages ≡ true
       → (mid : E) × PutsTold e mid new (refused_text audience ask names n why)
 

@@ -1,7 +1,8 @@
 //! What a person is told of a command beside its report, and what is asked before it overwrites what perhaps should stay.
 //!
 //! Start with `Notices` (`src/notices.rt`): what is noticed of an array as it is opened, and as a command leaves it.
-//! `put_told` and `put_refused` (`src/telling.rt`) put its lines out after a command, and `ask_first` (`src/question.rt`)
+//! `put_told` and `put_refused` (`src/telling.rt`) put its lines out after a command, of which some speak of a refused one alone
+//! (`src/refused_lines.rt`), and `ask_first` (`src/question.rt`)
 //! asks with some of them before it. `specs/Telling.antt` says which lines there are, in which order, and
 //! `specs/Question.antt` what an answer allows. What is shown and asked at a terminal, and that only a yes is a yes, is
 //! `Questions` (`src/terminal.rt`). The rules by which a member gets a line, and the text of each line, are those of
@@ -27,6 +28,7 @@ mod messages;
 mod missing;
 mod notices;
 mod question;
+mod refused_lines;
 mod telling;
 mod terminal;
 
@@ -38,5 +40,6 @@ pub use messages::{Audience, Messages};
 pub use missing::put_gap_lines;
 pub use notices::Notices;
 pub use question::ask_first;
+pub use refused_lines::put_perhaps_listed;
 pub use telling::{put_refused, put_told};
 pub use terminal::{Questions, is_yes};

@@ -9,6 +9,7 @@ ghost use Rattle.md_messages.specs.Noticed.{asks_first};
 
 use crate::messages::Audience;
 use crate::notices::Notices;
+use crate::refused_lines::{put_all_failed, put_perhaps_listed};
 use md_assembly::MemberState;
 use md_commands::CommandFault;
 use md_examine::{Sink, SinkFault};
@@ -20,8 +21,8 @@ use md_notices::{
 };
 use md_words::{ArrayCommand, Command, Loss, Overwritten};
 
-// The name in a place, where there is one.
-fn name_at<'a>(names: &[&'a str], k: usize) -> Option<&'a str>
+/// The name in a place, where there is one.
+pub(crate) fn name_at<'a>(names: &[&'a str], k: usize) -> Option<&'a str>
     ensures { option_map (λ s. s.now) result ≡ slice_get (texts names.now) k }
 {
     if k < names.len() {
@@ -197,8 +198,8 @@ fn put_all_dropped<S: Sink>(out: &mut S, notices: &Notices, names: &[&str]) -> R
     Ok(())
 }
 
-// The name of the member in a place. A device that joins comes after the others.
-fn member_name<'a>(command: Command<'a>, names: &[&'a str], k: usize) -> Option<&'a str>
+/// The name of the member in a place. A device that joins comes after the others.
+pub(crate) fn member_name<'a>(command: Command<'a>, names: &[&'a str], k: usize) -> Option<&'a str>
     ensures { option_map (λ s. s.now) result ≡ member_name (ask_of command.entry) (texts names.now) k }
 {
     if k == names.len() {
@@ -224,8 +225,8 @@ fn put_listed_of<S: Sink>(
     }
 }
 
-// Whether whole chunks are listed for a bad sector.
-fn loses_chunks(command: Command<'_>) -> bool
+/// Whether whole chunks are listed for a bad sector.
+pub(crate) fn loses_chunks(command: Command<'_>) -> bool
     ensures { result ≡ loses_chunks (loss_of (ask_of command.entry)) }
 {
     match command.loss() {
@@ -526,7 +527,6 @@ fn put_noticed<S: Sink>(
     put_first_unless(out, notices, command, names, audience)?;
     put_all_parted(out, notices, names, asked_member(notices, command))?;
     put_all_unnamed(out, notices)?;
-    put_all_dropped(out, notices, names)?;
     Ok(())
 }
 
@@ -590,6 +590,7 @@ pub fn put_told<S: Sink>(
         (told_text audience (ask_of command.entry) (texts names.now) notices.now) result }
 {
     put_noticed(out, notices, command, names, audience)?;
+    put_all_dropped(out, notices, names)?;
     put_all_listed(out, notices, command, names)?;
     put_loss(out, command, notices, names)?;
     put_uncompared(out, notices, command, names)?;
@@ -621,7 +622,7 @@ fn put_lost_if<S: Sink>(
     }
 }
 
-/// All that is said of what was noticed by a command that is refused, after the fault and what to do.
+/// All that is said of a command that is refused, after the fault and what to do.
 pub fn put_refused<S: Sink>(
     out: &mut S,
     notices: &Notices,
@@ -634,6 +635,8 @@ pub fn put_refused<S: Sink>(
         (refused_text audience (ask_of command.entry) (texts names.now) notices.now fault.now) result }
 {
     put_noticed(out, notices, command, names, audience)?;
+    put_all_failed(out, notices, names)?;
+    put_perhaps_listed(out, notices, command, names)?;
     put_lost_if(out, command, audience, has_joined(fault))?;
     Ok(())
 }

@@ -49,9 +49,7 @@ use std::io::{self, IsTerminal, Stderr, Stdin, Write};
 use std::process::ExitCode;
 use std::rt::Files;
 
-// The status of a command that is done, that of words that are not taken, and that of a command that is refused.
-const DONE: u8 = 0;
-
+// The status of words that are not taken, and that of a command that is refused.
 const WORDS_NOT_TAKEN: u8 = 2;
 
 const REFUSED: u8 = 1;
@@ -107,7 +105,7 @@ fn main(rt: HostRuntime) -> ExitCode {
         Some(json) => scan_devices(&setting, json, &mut session.out, &mut err),
         None => run(&mut session, words, parsed, &mut images, &mut err, messages),
     };
-    if let (Some(names), DONE) = (rebuilt, status) {
+    if let Some(names) = rebuilt {
         tell_unlisted(rt.alloc(), &names, &lacking, &mut images, &mut err);
     }
     let is_done = is_ended(&setting, session, ending, &mut err);

@@ -88,20 +88,20 @@ const BEGIN_ANEW: &str =
 const COPY_DISK: &str =
     "copy the disk by ddrescue, and use the copy with its map (`--map`), without which zeros would count as data; or leave the image out";
 
-/// What to do about a source of a rebuild whose log is full.
+/// What to do about a source of a rebuild whose log is full. Chunks of the passes before are listed by then.
 pub(crate) const LEAVE_SOURCE_OUT: &str =
-    "it can't be read in more places than its bad block log has room for: `rebuild --salvage` lists bad sectors alone; or leave the image out, if another member is in sync; or copy the disk by ddrescue, which may get more of it, and use the copy with its map (`--map`), without which zeros would count as data; or put out the array by `read --readonly --fill`, and make a new one of it by `create`";
+    "it can't be read in more places than its bad block log has room for: leave the image out, if another member is in sync; or copy the disks by ddrescue, and give `rebuild --salvage`, which lists bad sectors alone, fresh copies with their maps (`--map`), without which zeros would count as data: what this command listed stays listed; or put out the array by `read --readonly --fill`, and make a new one of it by `create`";
 
 const NEW_LOG: &str =
-    "its bad block log has no room for the chunks that no member could give: `rebuild --salvage` lists bad sectors alone; or `fail` and `remove` it, and `add` it again, which gives it a new log; or put out the array by `read --readonly --fill`, and make a new one of it by `create`";
+    "its bad block log has no room for the chunks that no member could give, or it has none: `fail` and `remove` it, and `add` it again, which gives it a new log; then try `rebuild --salvage`, which lists bad sectors alone, on fresh copies of the others: what this command listed stays listed; or put out the array by `read --readonly --fill`, and make a new one of it by `create`";
 
 /// What to do about the log of the member that is salvaged, where it has no room for the sectors that are lost.
 pub(crate) const SALVAGE_WITH_NEW_LOG: &str =
-    "its bad block log has no room for the sectors that no member could give, or it has none: `fail` and `remove` it, and `add` it again, which gives it a new log; or put out the array by `read --readonly --fill`, and make a new one of it by `create`";
+    "its bad block log has no room for the sectors that no member could give, or it has none: where it has none, or `examine-badblocks` shows that it lists some, `remove` it, after `fail` if it is recovering, and `add` it again, which gives it a new log; else put out the array by `read --readonly --fill`, and make a new one of it by `create`";
 
 /// What to do about a source of a salvage whose log has no room for the sectors that are lost.
 pub(crate) const SALVAGE_WITHOUT_SOURCE: &str =
-    "its bad block log has no room for the sectors that no member could give, or it has none: put out the array by `read --readonly --fill`, and make a new one of it by `create`; or copy the disk by ddrescue, which may get more of it, and use the copy with its map (`--map`), without which zeros would count as data; or leave the image out, if another member is in sync, and lose what it alone gives";
+    "its bad block log has no room for the sectors that no member could give, or it has none: put out the array by `read --readonly --fill`, and make a new one of it by `create`; or copy the disk by ddrescue, which may get more of it, and use the copy with its map (`--map`), without which zeros would count as data, and where it has no log without `--salvage`, which costs whole chunks; or leave the image out, if another member is in sync, and lose what it alone gives";
 
 const MAYBE_LOST: &str =
     "see why the device can't be written (`dmesg`, free space, write protection); what it held may be lost";

@@ -1,4 +1,5 @@
 // Of copies of which the logs do not list all that they lack it is said that later commands need their maps, too.
+use md_assembly::state_of;
 use md_badblocks::BadSet;
 use md_examine::{Output, put_name};
 use md_images::{Access, Images};
@@ -24,7 +25,8 @@ pub fn rebuilt_from<'a, F>(alloc: Global, parsed: &Result<Request<'a>, F>) -> Op
     Some(names)
 }
 
-/// Says on `err` of which of these images the logs do not list all that they lack. The images are looked at.
+/// Says on `err` of which of these images the logs do not list all that they lack, where their members are in sync. The images are
+/// looked at.
 pub fn tell_unlisted<I: Images, E: Write>(
     alloc: Global,
     names: &[&str],
@@ -32,11 +34,48 @@ pub fn tell_unlisted<I: Images, E: Write>(
     images: &mut I,
     err: &mut E,
 ) {
+    if lacking.iter().all(|missing| missing.is_empty()) {
+        return;
+    }
+    let freshest = freshest_of(alloc, images, names);
     for (name, missing) in names.iter().zip(lacking) {
-        if is_unlisted(alloc, images, name, missing) {
+        if is_unlisted(alloc, images, &freshest, name, missing) {
             let _ = tell(name, err);
         }
     }
+}
+
+// The member on one of these images whose superblock has the most events.
+fn freshest_of<I: Images>(alloc: Global, images: &mut I, names: &[&str]) -> Option<MemberInfo> {
+    let mut freshest = None;
+    for name in names {
+        if let Some(member) = member_of(alloc, images, name) {
+            if is_newer(&member, &freshest) {
+                freshest = Some(member);
+            }
+        }
+    }
+    freshest
+}
+
+fn is_newer(member: &MemberInfo, than: &Option<MemberInfo>) -> bool {
+    match than {
+        Some(other) => other.superblock.events < member.superblock.events,
+        None => true,
+    }
+}
+
+// The member on an image, if there is one and it can be read. The name may be left empty.
+fn member_of<I: Images>(alloc: Global, images: &mut I, name: &str) -> Option<MemberInfo> {
+    if name.is_empty() {
+        return None;
+    }
+    let Ok(mut device) = images.get(name, Access::Look) else {
+        return None;
+    };
+    let read = read_member(alloc, &mut device);
+    images.put(name, device);
+    read.ok()
 }
 
 // None where the output fails.
@@ -50,20 +89,29 @@ fn tell<E: Write>(name: &str, err: &mut E) -> Option<()> {
     .ok()
 }
 
-// Whether the image is one of a member whose log does not list all sectors of the array that the image lacks, or that is not
+// Whether the image is one of a member in sync whose log does not list all sectors of the array that the image lacks, or that is not
 // known.
-fn is_unlisted<I: Images>(alloc: Global, images: &mut I, name: &str, missing: &BadSet) -> bool {
+fn is_unlisted<I: Images>(
+    alloc: Global,
+    images: &mut I,
+    freshest: &Option<MemberInfo>,
+    name: &str,
+    missing: &BadSet,
+) -> bool {
     if name.is_empty() || missing.is_empty() {
         return false;
     }
-    let Ok(mut device) = images.get(name, Access::Look) else {
-        return true;
-    };
-    let read = read_member(alloc, &mut device);
-    images.put(name, device);
-    match read {
-        Ok(member) => lacks_unlisted(&member, missing),
-        Err(_) => true,
+    match member_of(alloc, images, name) {
+        Some(member) => is_in_sync(&member, freshest) && lacks_unlisted(&member, missing),
+        None => true,
+    }
+}
+
+// Whether a member is in sync as the freshest superblock says, where one is had.
+fn is_in_sync(member: &MemberInfo, freshest: &Option<MemberInfo>) -> bool {
+    match freshest {
+        Some(freshest) => state_of(&freshest.superblock, &member.superblock).is_in_sync(),
+        None => true,
     }
 }
 

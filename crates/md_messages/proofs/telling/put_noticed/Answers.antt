@@ -6,5 +6,5 @@ pub returns : goal.returns
 unfolding noticed_text
 returns g c =
     let first = puts_then g.S.Sink.contents g.S.Sink.failed c.in_ok-put_all_marked.ensures c.in_ok-put_first_unless.ensures in
-    let all = puts_then g.S.Sink.contents g.S.Sink.failed (puts_then g.S.Sink.contents g.S.Sink.failed (puts_then g.S.Sink.contents g.S.Sink.failed first c.in_ok-put_all_parted.ensures) c.in_ok-put_all_unnamed.ensures) c.in_ok-put_all_dropped.ensures in
+    let all = puts_then g.S.Sink.contents g.S.Sink.failed (puts_then g.S.Sink.contents g.S.Sink.failed first c.in_ok-put_all_parted.ensures) c.in_ok-put_all_unnamed.ensures in
     rw (c.asked_member.ensures) at all

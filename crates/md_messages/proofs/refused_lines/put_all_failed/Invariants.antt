@@ -1,0 +1,7 @@
+use Rattle.std.specs.List.{flat_map, range_with_len}
+use Rattle.md_examine.specs.Sink.{Puts}
+use Rattle.md_messages.specs.Telling.{failed_at, texts}
+use Rattle.md_messages.proofs.refused_lines.put_all_failed.Given as goal
+
+abbrev pub invariant-loop-k : goal.invariant-loop-k
+invariant-loop-k g l = Puts g.S.Sink.contents g.S.Sink.failed l.fn.out l.out (flat_map (failed_at l.notices (texts l.names)) (range_with_len 0 l.k))
