@@ -1,15 +1,18 @@
 // What the copies of members lack, as their maps say, counts as part of the members' lists.
 ghost use Rattle.std.specs.Prelude.{◌≡◌, ◌↔◌, ◌<◌, ℕ, IfOk, MatchResult, false, length, true};
+ghost use Rattle.md_badblocks.specs.Runs.{IsBad};
 ghost use Rattle.md_kept_members.specs.View.{MemberView};
 ghost use Rattle.md_state.specs.Members.{IsMember};
 ghost use Rattle.md_array.specs.Consistency.{IsConsistent};
 ghost use Rattle.md_words.specs.Asks.{array_ask, loss_of};
 ghost use Rattle.md_cli.specs.Arrays.{disks};
-ghost use Rattle.md_cli.specs.Lacking.{AreHoles, HasLowerRole, IsFirstLacking, IsLacking, GivesEachSector, LacksSome, MayGrow, MayGrowBefore, MayNotGrow, MayNotGrowBefore, OpensLacking, RefusesLackingImages, Regards, RegardsOne, before_resync, growth_of, is_sectors, role_or_zero};
+ghost use Rattle.md_cli.specs.declared.holes.BeforeResync.TheVariants.{Given};
+ghost use Rattle.md_cli.specs.Lacking.{AreCounted, AreHoles, CountsBefore, FitsMore, IsLacking, LacksSome, OpensLacking, OverfillsLog, RefusesLackingImages, Regards, RegardsOne, before_resync, growth_of, is_sectors};
 
-use crate::trial_list::has_room_with;
+use crate::given_sectors::given_sectors;
+use crate::marked_sectors::{marked_sectors, unmarked_sectors};
+use crate::trial_list::{add_sectors, has_room_with, same_list};
 use md_array::{Mirror, OpenFault};
-use md_assembly::MemberState;
 use md_badblocks::BadSet;
 use md_device::Device;
 use md_words::{ArrayCommand, Command, Loss};
@@ -20,7 +23,7 @@ use std::alloc::{AllocError, Global};
 pub(crate) enum BeforeResync {
     /// All of them: there is no resync.
     All,
-    /// Those that leave each sector to some member: all beside one that gives all, and else the first one.
+    /// All, of marked chunks but by sectors that some member gives.
     Given,
     /// None.
     Nothing,
@@ -34,8 +37,8 @@ pub(crate) struct Growth {
 }
 
 /// Opens devices as a mirror. What the images lack, each by its map, counts then as part of the lists of the members in
-/// sync, in memory alone: so a plan, a check and a copy leave it out. Where a resync is to come, lists grow only as long as
-/// each sector is left to some member; where sectors are listed on all members at the end, each has to fit its log.
+/// sync, in memory alone: so a plan, a check and a copy leave it out. Where a resync is to come, what no member gives of marked chunks
+/// does not count; where sectors are listed on all members at the end, each list has to fit its log, with room to spare.
 pub(crate) fn open_lacking<D: Device + Drop>(
     alloc: Global,
     command: ArrayCommand<'_>,
@@ -126,129 +129,100 @@ fn regard_one<D: Device + Drop>(
     if !is_lacking(mirror, lacking, k) {
         return Ok(());
     }
-    let (offset, size) = (mirror.own(k).data_offset, mirror.chunks().size);
-    let sectors = lacked_sectors(alloc, &lacking[k], offset, size)?;
-    let may = may_grow(alloc, mirror, lacking, how, k, &sectors)?;
-    if !may {
+    let sectors = counted_sectors(alloc, mirror, lacking, how.before_resync, k)?;
+    let fits = fits_log(alloc, mirror, how, k, &sectors)?;
+    if fits {
+        mirror.regard_as_bad(alloc, k, &sectors)?;
         return Ok(());
     }
-    mirror.regard_as_bad(alloc, k, &sectors)?;
+    if mirror.resynced() {
+        return Ok(());
+    }
+    let marked = marked_sectors(alloc, mirror, &sectors)?;
+    mirror.regard_as_bad(alloc, k, &marked)?;
     Ok(())
 }
 
-// Whether the list of member k may grow by these sectors.
-fn may_grow<D: Device + Drop>(
+// Whether the list of member k fits its log with these sectors, where it has to.
+fn fits_log<D: Device + Drop>(
     alloc: Global,
     mirror: &Mirror<D>,
-    lacking: &[BadSet],
     how: Growth,
     k: usize,
     sectors: &BadSet,
 ) -> Result<bool, AllocError>
     requires within { k < length mirror.now.array.members }
-    ensures grows { IfOk result (λ may. may ≡ true → (m : MemberView) → IsMember mirror.now.array k m
-        → MayGrow how lacking.now mirror.now.array k m sectors.now) }
-    ensures stays { IfOk result (λ may. may ≡ false → (m : MemberView) → IsMember mirror.now.array k m
-        → MayNotGrow how lacking.now mirror.now.array k m sectors.now) }
+    ensures room { IfOk result (λ fits. fits ≡ true → how.must_fit ≡ true → (m : MemberView)
+        → IsMember mirror.now.array k m → FitsMore m sectors.now) }
+    ensures must_fit { IfOk result (λ fits. fits ≡ false → how.must_fit ≡ true) }
+    ensures full { IfOk result (λ fits. fits ≡ false → (m : MemberView) → IsMember mirror.now.array k m
+        → OverfillsLog m sectors.now) }
 {
-    if !mirror.resynced() && !may_grow_before(mirror, lacking, how.before_resync, k) {
-        return Ok(false);
-    }
     if !how.must_fit {
         return Ok(true);
     }
     has_room_with(alloc, mirror, k, sectors)
 }
 
-// Whether it may grow though the array is to be resynced.
-fn may_grow_before<D: Device + Drop>(
+// The sectors of the array that the image of member k lacks, as far as they count as listed.
+fn counted_sectors<D: Device + Drop>(
+    alloc: Global,
     mirror: &Mirror<D>,
     lacking: &[BadSet],
     which: BeforeResync,
     k: usize,
-) -> bool
+) -> Result<BadSet, AllocError>
     requires within { k < length mirror.now.array.members }
-    ensures may { result ≡ true → MayGrowBefore which lacking.now mirror.now.array k }
-    ensures may_not { result ≡ false → MayNotGrowBefore which lacking.now mirror.now.array k }
+    requires listed { k < length lacking.now }
+    requires sound { IsConsistent mirror.now }
+    ensures { IfOk result (λ sectors. (m : MemberView) → IsMember mirror.now.array k m
+        → AreCounted which lacking.now mirror.now.array k m sectors) }
+{
+    let (offset, size) = (mirror.own(k).data_offset, mirror.chunks().size);
+    let holes = lacked_sectors(alloc, &lacking[k], offset, size)?;
+    if mirror.resynced() {
+        return Ok(holes);
+    }
+    counted_before(alloc, mirror, lacking, which, holes)
+}
+
+// Those of these sectors that count though the array is to be resynced.
+fn counted_before<D: Device + Drop>(
+    alloc: Global,
+    mirror: &Mirror<D>,
+    lacking: &[BadSet],
+    which: BeforeResync,
+    holes: BadSet,
+) -> Result<BadSet, AllocError>
+    requires sound { IsConsistent mirror.now }
+    ensures { IfOk result (λ sectors. (s : ℕ) → IsBad sectors s
+        ↔ (IsBad holes s × CountsBefore which lacking.now mirror.now.array s)) }
 {
     match which {
-        BeforeResync::All => true,
-        BeforeResync::Given => has_whole(mirror, lacking) || is_first(mirror, lacking, k),
-        BeforeResync::Nothing => false,
+        BeforeResync::All => Ok(holes),
+        BeforeResync::Given => unmarked_or_given(alloc, mirror, lacking, &holes),
+        BeforeResync::Nothing => Ok(BadSet::new(alloc)),
     }
 }
 
-// Whether some member gives all sectors.
-fn has_whole<D: Device + Drop>(mirror: &Mirror<D>, lacking: &[BadSet]) -> bool
-    ensures some { result ≡ true → (j : ℕ) × GivesEachSector lacking.now mirror.now.array j }
-    ensures none { result ≡ false → (j : ℕ) → GivesEachSector lacking.now mirror.now.array j → ⊥ }
+// Those of these sectors that do not lie in marked chunks, or that some member gives; of a lone member all.
+fn unmarked_or_given<D: Device + Drop>(
+    alloc: Global,
+    mirror: &Mirror<D>,
+    lacking: &[BadSet],
+    holes: &BadSet,
+) -> Result<BadSet, AllocError>
+    requires sound { IsConsistent mirror.now }
+    ensures { IfOk result (λ sectors. (s : ℕ) → IsBad sectors s
+        ↔ (IsBad holes.now s × CountsBefore Given lacking.now mirror.now.array s)) }
 {
-    for j in 0..mirror.members() {
-        if is_whole(mirror, lacking, j) {
-            return true;
-        }
+    if !mirror.has_two_in_sync() {
+        return same_list(alloc, holes);
     }
-    false
-}
-
-// Whether member k gives all sectors.
-fn is_whole<D: Device + Drop>(mirror: &Mirror<D>, lacking: &[BadSet], k: usize) -> bool
-    requires within { k < length mirror.now.array.members }
-    ensures { (result ≡ true) ↔ GivesEachSector lacking.now mirror.now.array k }
-{
-    if !mirror.state(k).is_in_sync() {
-        return false;
-    }
-    if is_lacking(mirror, lacking, k) {
-        return false;
-    }
-    mirror.bad(k).is_empty()
-}
-
-// Whether a resync would copy from member k before any other whose image lacks something.
-fn is_first<D: Device + Drop>(mirror: &Mirror<D>, lacking: &[BadSet], k: usize) -> bool
-    requires within { k < length mirror.now.array.members }
-    ensures first { result ≡ true → IsFirstLacking lacking.now mirror.now.array k }
-    ensures later { result ≡ false
-        → (j : ℕ) × IsLacking lacking.now mirror.now.array j × HasLowerRole mirror.now.array j k }
-{
-    for j in 0..mirror.members() {
-        if is_before(mirror, lacking, j, k) {
-            return false;
-        }
-    }
-    true
-}
-
-// Whether the image of member j lacks something, and a resync would copy from it before member k.
-fn is_before<D: Device + Drop>(mirror: &Mirror<D>, lacking: &[BadSet], j: usize, k: usize) -> bool
-    requires one { j < length mirror.now.array.members }
-    requires other { k < length mirror.now.array.members }
-    ensures { (result ≡ true)
-        ↔ (IsLacking lacking.now mirror.now.array j × HasLowerRole mirror.now.array j k) }
-{
-    if !has_lower_role(mirror, j, k) {
-        return false;
-    }
-    is_lacking(mirror, lacking, j)
-}
-
-fn has_lower_role<D: Device + Drop>(mirror: &Mirror<D>, j: usize, k: usize) -> bool
-    requires one { j < length mirror.now.array.members }
-    requires other { k < length mirror.now.array.members }
-    ensures { (result ≡ true) ↔ HasLowerRole mirror.now.array j k }
-{
-    role_or_zero(mirror.state(j)) < role_or_zero(mirror.state(k))
-}
-
-// The role of a member in sync.
-fn role_or_zero(state: MemberState) -> u16
-    ensures { result ≡ role_or_zero state }
-{
-    match state {
-        MemberState::InSync(role) => role,
-        _ => 0,
-    }
+    let mut sectors = unmarked_sectors(alloc, mirror, holes)?;
+    let given = given_sectors(alloc, mirror, lacking, holes)?;
+    add_sectors(&mut sectors, 0, &given)?;
+    Ok(sectors)
 }
 
 /// Whether the image of member k, which is in sync, lacks a sector of the array.

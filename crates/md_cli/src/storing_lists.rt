@@ -5,17 +5,19 @@ ghost use Rattle.md_kept_members.specs.View.{MemberView};
 ghost use Rattle.md_state.specs.Members.{IsInSync};
 ghost use Rattle.md_state.specs.Steps.WriteMember.{IsNotDue};
 ghost use Rattle.md_words.specs.Asks.{array_ask};
-ghost use Rattle.md_cli.specs.StoringLists.{FailsFrom, FailsListStore, MayStore, StoresEarly, StoresFrom, StoresOne, stores_lists};
+ghost use Rattle.md_cli.specs.Lacking.{IsLacking};
+ghost use Rattle.md_cli.specs.StoringLists.{FailsFrom, FailsListStore, FailsToReady, FailsToStoreDue, IsReadied, IsToReady, MayStore, Readies, StoresDue, StoresEarly, StoresFrom, StoresOne, of_part, stores_lists};
 
 use crate::holes::is_lacking;
+use crate::trial_list::usable_room;
 use md_array::Mirror;
 use md_badblocks::BadSet;
-use md_commands::CommandFault;
+use md_commands::{CommandFault, resync_if_needed};
 use md_copy::RebuildFault;
 use md_device::Device;
-use md_kept_members::log_room;
-use md_metadata::store_list;
+use md_metadata::{PartFault, store_list, store_records};
 use md_words::ArrayCommand;
+use std::alloc::Global;
 
 /// Whether the command stores lists.
 pub(crate) fn stores_lists(command: ArrayCommand<'_>) -> bool
@@ -27,7 +29,7 @@ pub(crate) fn stores_lists(command: ArrayCommand<'_>) -> bool
     }
 }
 
-/// Whether the command stores lists, and may do so first: there is no resync to come, and all superblocks are stored.
+/// Whether the command stores lists, and may do so now: there is no resync to come, and all superblocks are stored.
 pub(crate) fn stores_early<D: Device + Drop>(command: ArrayCommand<'_>, mirror: &Mirror<D>) -> bool
     ensures early { result ≡ true → StoresEarly (array_ask command.entry) mirror.now.array }
     ensures late { result ≡ false → StoresEarly (array_ask command.entry) mirror.now.array → ⊥ }
@@ -41,8 +43,105 @@ pub(crate) fn stores_early<D: Device + Drop>(command: ArrayCommand<'_>, mirror: 
     is_none_due(mirror, mirror.members())
 }
 
-/// Stores the list of each member in sync whose image lacks some sector of the array, where its log has room. A write that
-/// fails ends it. Takes no memory.
+/// Makes an array ready for lists to be stored, where a command stores some: it is resynced if it has to be, and the superblocks of
+/// members in sync that are due are stored.
+pub(crate) fn ready_lists<D: Device + Drop>(
+    alloc: Global,
+    command: ArrayCommand<'_>,
+    mirror: &mut Mirror<D>,
+    lacking: &[BadSet],
+) -> Result<(), CommandFault>
+    requires sound { IsConsistent mirror.old }
+    ensures gives { MatchResult result
+        (λ _. Readies (array_ask command.entry) lacking.now mirror.old mirror.new)
+        (λ fault. IsToReady (array_ask command.entry) lacking.now mirror.old.array
+        × FailsToReady mirror.old mirror.new fault) }
+    ensures as_many { length mirror.new.disks ≡ length mirror.old.disks }
+    ensures sound { OnOk result (IsConsistent mirror.new) }
+{
+    if !is_to_ready(command, mirror, lacking) {
+        return Ok(());
+    }
+    resync_and_store_due(alloc, mirror)
+}
+
+// Whether the command stores lists, and may rebuild a member from copies that lack something.
+fn is_to_ready<D: Device + Drop>(
+    command: ArrayCommand<'_>,
+    mirror: &Mirror<D>,
+    lacking: &[BadSet],
+) -> bool
+    ensures yes { result ≡ true → IsToReady (array_ask command.entry) lacking.now mirror.now.array }
+    ensures no { result ≡ false → IsToReady (array_ask command.entry) lacking.now mirror.now.array → ⊥ }
+{
+    if !stores_lists(command) {
+        return false;
+    }
+    if !mirror.degraded() {
+        return false;
+    }
+    is_some_lacking(mirror, lacking)
+}
+
+// Whether the image of some member in sync lacks a sector of the array.
+fn is_some_lacking<D: Device + Drop>(mirror: &Mirror<D>, lacking: &[BadSet]) -> bool
+    ensures some { result ≡ true → (k : ℕ) × IsLacking lacking.now mirror.now.array k }
+    ensures none { result ≡ false → (k : ℕ) → IsLacking lacking.now mirror.now.array k → ⊥ }
+{
+    for k in 0..mirror.members() {
+        if is_lacking(mirror, lacking, k) {
+            return true;
+        }
+    }
+    false
+}
+
+// It is resynced if it has to be, and then superblocks that are due are stored.
+fn resync_and_store_due<D: Device + Drop>(
+    alloc: Global,
+    mirror: &mut Mirror<D>,
+) -> Result<(), CommandFault>
+    requires sound { IsConsistent mirror.old }
+    ensures gives { MatchResult result (λ _. IsReadied mirror.old mirror.new)
+        (FailsToReady mirror.old mirror.new) }
+    ensures as_many { length mirror.new.disks ≡ length mirror.old.disks }
+    ensures sound { OnOk result (IsConsistent mirror.new) }
+{
+    match resync_if_needed(alloc, mirror) {
+        Ok(()) => store_due(mirror),
+        Err(fault) => Err(CommandFault::Resync(fault)),
+    }
+}
+
+// Superblocks of members in sync that are due are stored, while the mirror runs.
+fn store_due<D: Device + Drop>(mirror: &mut Mirror<D>) -> Result<(), CommandFault>
+    requires sound { IsConsistent mirror.old }
+    ensures gives { MatchResult result (λ _. StoresDue mirror.old mirror.new)
+        (FailsToStoreDue mirror.old mirror.new) }
+    ensures as_many { length mirror.new.disks ≡ length mirror.old.disks }
+    ensures sound { OnOk result (IsConsistent mirror.new) }
+{
+    if mirror.halted() {
+        return Ok(());
+    }
+    match store_records(mirror) {
+        Ok(()) => Ok(()),
+        Err(why) => Err(CommandFault::Rebuild(of_part(why))),
+    }
+}
+
+// The fault of a rebuild that could not store a part of a member.
+fn of_part(why: PartFault) -> RebuildFault
+    ensures { result ≡ of_part why }
+{
+    match why {
+        PartFault::MemberFailed(k) => RebuildFault::MetadataFault(k),
+        PartFault::Halted => RebuildFault::Halted,
+    }
+}
+
+/// Stores the list of each member in sync whose image lacks some sector of the array, where its log has room to spare. A
+/// write that fails ends it. Takes no memory.
 pub(crate) fn store_lists<D: Device + Drop>(
     mirror: &mut Mirror<D>,
     lacking: &[BadSet],
@@ -94,7 +193,7 @@ fn may_store<D: Device + Drop>(mirror: &Mirror<D>, lacking: &[BadSet], k: usize)
     if !is_lacking(mirror, lacking, k) {
         return false;
     }
-    if mirror.bad(k).entries_needed() > log_room(mirror.own(k)) {
+    if mirror.bad(k).entries_needed() > usable_room(mirror.own(k)) {
         return false;
     }
     is_none_due(mirror, k)

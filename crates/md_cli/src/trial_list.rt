@@ -4,15 +4,16 @@ ghost use Rattle.md_badblocks.specs.Runs.{IsBad, IsCanonical};
 ghost use Rattle.md_kept_members.specs.SectorLists.{IsListMore, IsPlaced, in_runs};
 ghost use Rattle.md_kept_members.specs.View.{MemberView};
 ghost use Rattle.md_state.specs.Members.{IsMember};
-ghost use Rattle.md_cli.specs.Lacking.{FitsMore, OverfillsLog};
+ghost use Rattle.md_cli.specs.Lacking.{FitsMore, OverfillsLog, usable_room};
 
 use md_array::Mirror;
 use md_badblocks::BadSet;
 use md_device::Device;
 use md_kept_members::log_room;
+use md_super::Superblock;
 use std::alloc::{AllocError, Global};
 
-/// Whether the log of member k has room for its list with these sectors of the array.
+/// Whether the log of member k has room for its list with these sectors of the array, and some to spare.
 pub(crate) fn has_room_with<D: Device + Drop>(
     alloc: Global,
     mirror: &Mirror<D>,
@@ -27,7 +28,17 @@ pub(crate) fn has_room_with<D: Device + Drop>(
 {
     let own = mirror.own(k);
     let list = list_more(alloc, mirror.bad(k), own.data_offset, sectors)?;
-    Ok(list.entries_needed() <= log_room(own))
+    Ok(list.entries_needed() <= usable_room(own))
+}
+
+/// How many entries of the log that a superblock names a list may take which grew by what an image lacks. An eighth of them is
+/// kept free for bad sectors that are found later: with no room for such a one a rebuild is refused, and a kernel drops
+/// the member.
+pub(crate) fn usable_room(own: &Superblock) -> u64
+    ensures { result ≡ usable_room own.now }
+{
+    let room = log_room(own);
+    room - room / 8
 }
 
 // The list of a member with these sectors of the array too: its list is this one, and the array's sectors begin at the
@@ -46,8 +57,8 @@ fn list_more(
     Ok(list)
 }
 
-// A list of the same sectors.
-fn same_list(alloc: Global, bad: &BadSet) -> Result<BadSet, AllocError>
+/// A list of the same sectors.
+pub(crate) fn same_list(alloc: Global, bad: &BadSet) -> Result<BadSet, AllocError>
     ensures canonical { IfOk result IsCanonical }
     ensures same { IfOk result (λ list. (sector : ℕ) → IsBad list sector ↔ IsBad bad.now sector) }
 {
@@ -58,8 +69,12 @@ fn same_list(alloc: Global, bad: &BadSet) -> Result<BadSet, AllocError>
     Ok(list)
 }
 
-// Adds these sectors of the array, which begin on the device at the offset, as far as a list may have them.
-fn add_sectors(list: &mut BadSet, offset: u64, sectors: &BadSet) -> Result<(), AllocError>
+/// Adds these sectors of the array, which begin on the device at the offset, as far as a list may have them.
+pub(crate) fn add_sectors(
+    list: &mut BadSet,
+    offset: u64,
+    sectors: &BadSet,
+) -> Result<(), AllocError>
     requires { IsCanonical list.old }
     ensures canonical { IsCanonical list.new }
     ensures bad { OnOk result ((sector : ℕ) → IsBad list.new sector

@@ -1,8 +1,8 @@
 use Rattle.std.proofs.Common.{◌≡◌, ◌∙◌, ◌≤◌, ℕ, ap, arith, subst, sym, true≢false}
 use Rattle.md_assembly.proofs.Indices.{got_within}
 use Rattle.md_badblocks.specs.Runs.{entries_needed}
-use Rattle.md_kept_members.specs.Enrolling.{log_room}
 use Rattle.md_state.proofs.Members.At.{told}
+use Rattle.md_cli.specs.Lacking.{usable_room}
 use Rattle.md_cli.proofs.storing_lists.may_store.Goals as goal
 
 pub returns-then-halted-clause-may_not : goal.returns-then-halted-clause-may_not
@@ -11,16 +11,16 @@ returns-then-halted-clause-may_not g c = λ _ h. true≢false (sym c.if-halted.t
 pub returns-then-not-is_lacking-clause-may_not : goal.returns-then-not-is_lacking-clause-may_not
 returns-then-not-is_lacking-clause-may_not g c = λ _ h. true≢false (sym (c.is_lacking.ensures.1 h.lacks) ∙ (let no = c.if-not-is_lacking.true in cc))
 
-pub returns-then-entries_needed-log_room-clause-may_not : goal.returns-then-entries_needed-log_room-clause-may_not
-returns-then-entries_needed-log_room-clause-may_not g c = λ _ h.
+pub returns-then-entries_needed-usable_room-clause-may_not : goal.returns-then-entries_needed-usable_room-clause-may_not
+returns-then-entries_needed-usable_room-clause-may_not g c = λ _ h.
     let a = c.args.mirror.now.array in
     let here = got_within a.members c.args.k c.requires.within in
     let bad = told (λ x. x.bad) a c.args.k here.0 c.bad.result.now c.bad.ensures here.1 in
     let own = told (λ x. x.superblock) a c.args.k here.0 c.own.result.now c.own.ensures here.1 in
     let needed : c.entries_needed.result ≡ entries_needed here.0.bad = c.entries_needed.ensures ∙ ap entries_needed (sym bad) in
-    let room : c.log_room.result ≡ log_room here.0.superblock = c.log_room.ensures ∙ ap log_room (sym own) in
-    let fits : entries_needed here.0.bad ≤ log_room here.0.superblock = h.room here.0 here.1 in
-    let more = c.if-entries_needed-log_room.true in
+    let room : c.usable_room.result ≡ usable_room here.0.superblock = c.usable_room.ensures ∙ ap usable_room (sym own) in
+    let fits : entries_needed here.0.bad ≤ usable_room here.0.superblock = h.room here.0 here.1 in
+    let more = c.if-entries_needed-usable_room.true in
     omega (arith, needed, room, fits, more)
 
 pub returns-clause-may : goal.returns-clause-may
@@ -32,8 +32,8 @@ returns-clause-may g c = λ yes. record {
       let bad = told (λ x. x.bad) a c.args.k m c.bad.result.now c.bad.ensures at in
       let own = told (λ x. x.superblock) a c.args.k m c.own.result.now c.own.ensures at in
       let needed = c.entries_needed.ensures in
-      let room = c.log_room.ensures in
-      subst (λ (n : ℕ). n ≤ log_room m.superblock) (needed ∙ ap entries_needed (sym bad)) (subst (λ (n : ℕ). c.entries_needed.result ≤ n) (room ∙ ap log_room (sym own)) c.if-entries_needed-log_room.false)
+      let room = c.usable_room.ensures in
+      subst (λ (n : ℕ). n ≤ usable_room m.superblock) (needed ∙ ap entries_needed (sym bad)) (subst (λ (n : ℕ). c.entries_needed.result ≤ n) (room ∙ ap usable_room (sym own)) c.if-entries_needed-usable_room.false)
       );
   earlier = c.is_none_due.ensures.none yes;
 }

@@ -1,5 +1,5 @@
 use Rattle.std.proofs.Common.{inl, inr, refl}
-use Rattle.md_cli.proofs.Lacked.{in_sync_at}
+use Rattle.md_cli.proofs.Lacked.{has_room, in_sync_at}
 use Rattle.md_cli.proofs.Stored.{stored_as_many, unstored_as_many}
 use Rattle.md_cli.proofs.storing_lists.store_one.Goals as goal
 
@@ -10,7 +10,7 @@ pub store_list-requires-clause-in_sync : goal.store_list-requires-clause-in_sync
 store_list-requires-clause-in_sync g c = in_sync_at c.args.lacking.now c.args.mirror.now.array c.args.k (c.may_store.ensures.may (let yes = c.if-not-may_store.false in cc)).lacks
 
 pub store_list-requires-clause-room : goal.store_list-requires-clause-room
-store_list-requires-clause-room g c = (c.may_store.ensures.may (let yes = c.if-not-may_store.false in cc)).room
+store_list-requires-clause-room g c = λ m at. has_room m.superblock m.bad ((c.may_store.ensures.may (let yes = c.if-not-may_store.false in cc)).room m at)
 
 pub store_list-requires-clause-earlier : goal.store_list-requires-clause-earlier
 store_list-requires-clause-earlier g c = (c.may_store.ensures.may (let yes = c.if-not-may_store.false in cc)).earlier

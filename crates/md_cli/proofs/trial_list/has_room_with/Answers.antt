@@ -1,8 +1,8 @@
 use Rattle.std.proofs.Common.{◌≡◌, ◌∙◌, ap, sym}
 use Rattle.md_badblocks.specs.Runs.{entries_needed}
-use Rattle.md_kept_members.specs.Enrolling.{log_room}
 use Rattle.md_super.specs.declared.superblock.Superblock.{Superblock}
 use Rattle.md_state.proofs.Members.At.{told}
+use Rattle.md_cli.specs.Lacking.{usable_room}
 use Rattle.md_cli.proofs.Lacked.{fits_more, lacks_room}
 use Rattle.md_cli.proofs.trial_list.has_room_with.Goals as goal
 
@@ -12,8 +12,8 @@ returns-clause-room g c = λ fits m at.
     let own = told (λ x. x.superblock) a c.args.k m c.own-own.result.now c.own-own.ensures at in
     let bad = told (λ x. x.bad) a c.args.k m c.bad.result.now c.bad.ensures at in
     let needed : c.entries_needed.result ≡ entries_needed c.in_ok-list.list = c.entries_needed.ensures in
-    let room : c.log_room.result ≡ log_room m.superblock = c.log_room.ensures ∙ ap log_room (sym own) in
-    fits_more m c.args.sectors.now c.in_ok-list.list c.entries_needed.result c.log_room.result (c.in_ok-list.ensures m bad (ap (λ (b : Superblock). b.data_offset) own)) needed room fits
+    let room : c.usable_room.result ≡ usable_room m.superblock = c.usable_room.ensures ∙ ap usable_room (sym own) in
+    fits_more m c.args.sectors.now c.in_ok-list.list c.entries_needed.result c.usable_room.result (c.in_ok-list.ensures m bad (ap (λ (b : Superblock). b.data_offset) own)) needed room fits
 
 pub returns-clause-full : goal.returns-clause-full
 returns-clause-full g c = λ short m at.
@@ -21,5 +21,5 @@ returns-clause-full g c = λ short m at.
     let own = told (λ x. x.superblock) a c.args.k m c.own-own.result.now c.own-own.ensures at in
     let bad = told (λ x. x.bad) a c.args.k m c.bad.result.now c.bad.ensures at in
     let needed : c.entries_needed.result ≡ entries_needed c.in_ok-list.list = c.entries_needed.ensures in
-    let room : c.log_room.result ≡ log_room m.superblock = c.log_room.ensures ∙ ap log_room (sym own) in
-    lacks_room m c.args.sectors.now c.in_ok-list.list c.entries_needed.result c.log_room.result (c.in_ok-list.ensures m bad (ap (λ (b : Superblock). b.data_offset) own)) needed room short
+    let room : c.usable_room.result ≡ usable_room m.superblock = c.usable_room.ensures ∙ ap usable_room (sym own) in
+    lacks_room m c.args.sectors.now c.in_ok-list.list c.entries_needed.result c.usable_room.result (c.in_ok-list.ensures m bad (ap (λ (b : Superblock). b.data_offset) own)) needed room short
