@@ -1,10 +1,10 @@
 -- Lists grow by what images lack, member by member.
-use Rattle.std.proofs.Common.{◌≡◌, ◌∙◌, ◌⊎◌, ◌↔◌, ℕ, ◌+◌, ◌-◌, ◌^◌, ◌<◌, ◌≤◌, min, Bool, true, false, List, [], ◌∷◌, get_or, leb, leb-true, le-leb, length, length-set, set, slice_get, Option, Some, None, inl, inr, refl, sym, ap, ap₂, subst, arith}
+use Rattle.std.proofs.Common.{◌≡◌, ◌∙◌, ◌⊎◌, ◌↔◌, ℕ, ◌+◌, ◌-◌, ◌^◌, ◌<◌, ◌≤◌, min, Bool, true, false, List, [], ◌∷◌, get_or, leb, leb-true, le-leb, length, length-set, set, slice_get, Option, Some, None, inl, inr, refl, sym, ap, ap₂, subst, arith, true≢false}
 use Rattle.std.proofs.lemmas.Bool.{both_ways, cases_lt}
 use Rattle.std.specs.Prelude.{unwrap_or}
 use Rattle.md_assembly.proofs.Indices.{got_same}
 use Rattle.std.proofs.lemmas.Option.{same_Some, slice_get-get_or, slice_get_past, slice_get_within}
-use Rattle.md_assembly.specs.States.{is_in_sync}
+use Rattle.md_assembly.specs.States.{is_in_sync, is_recovering}
 use Rattle.md_assembly.specs.declared.state.MemberState.{MemberState}
 use Rattle.md_badblocks.specs.Runs.{IsBad, IsCanonical, entries_needed}
 use Rattle.md_kept_members.specs.Enrolling.{log_room}
@@ -22,6 +22,7 @@ use Rattle.md_array.specs.Steps.NoteBad.{RegardsSectors}
 use Rattle.md_cli.specs.declared.holes.BeforeResync.{BeforeResync}
 use Rattle.md_cli.specs.declared.holes.BeforeResync.TheVariants.{All, Given, Nothing}
 use Rattle.md_cli.specs.declared.holes.Growth.{Growth}
+use Rattle.md_cli.specs.MapOfTarget.{LacksInPart}
 use Rattle.md_cli.specs.Lacking.{AreHoles, FitsMore, HasLowerRole, IsLacking, IsRegarded, GivesEachSector, OverfillsLog, LacksSome, Maps, MayGrow, MayGrowBefore, MayNotGrow, MayNotGrowBefore, Regards, RegardsOne, missing_at, role_or_zero}
 
 -- ---- the sectors of the array among those of an image, run by run
@@ -89,6 +90,29 @@ lacking_if lacking a k m missing b at in_sync given some =
           let same : h.0 ≡ m = got_same a.members k h.0 m h.1.member at in
           some.1 (subst (λ (x : MemberView). LacksSome missing a x) same (subst (λ (l : List Run). LacksSome l a h.0) is h.2)),
     )
+
+-- so of one that is recovering
+pub part_if : (lacking : Maps) (a : ArrayView) (k : ℕ) (m : MemberView) (missing : List Run) (b : Bool) → IsMember a k m → is_recovering m.state ≡ true → slice_get lacking k ≡ Some missing
+    → (b ≡ true) ↔ LacksSome missing a m → (b ≡ true) ↔ LacksInPart lacking a k
+part_if lacking a k m missing b at recovering given some =
+    let is : missing_at lacking k ≡ missing = ap (λ (o : Option (List Run)). unwrap_or o []) given in (
+      λ yes. record { member = m; at = at; recovering = recovering; lacks = subst (λ (l : List Run). LacksSome l a m) (sym is) (some.0 yes) },
+      λ h.
+          let same : h.member ≡ m = got_same a.members k h.member m h.at at in
+          some.1 (subst (λ (x : MemberView). LacksSome missing a x) same (subst (λ (l : List Run). LacksSome l a h.member) is h.lacks)),
+    )
+
+-- one that is not recovering
+pub whole_if : (lacking : Maps) (a : ArrayView) (k : ℕ) (m : MemberView) → IsMember a k m → is_recovering m.state ≡ false → LacksInPart lacking a k → ⊥
+whole_if lacking a k m at other h =
+    true≢false (sym h.recovering ∙ ap (λ (x : MemberView). is_recovering x.state) (got_same a.members k h.member m h.at at) ∙ other)
+
+-- where it is in no list of what images lack, it lacks nothing of part
+pub unlisted_lacks_no_part : (lacking : Maps) (a : ArrayView) (k : ℕ) → slice_get lacking k ≡ None → LacksInPart lacking a k → ⊥
+unlisted_lacks_no_part lacking a k none h =
+    let is : missing_at lacking k ≡ [] = ap (λ (o : Option (List Run)). unwrap_or o []) none in
+    let some = h.lacks in
+    subst (λ (l : List Run). IsBad l some.0) is some.1
 
 -- where it is in no list of what images lack, it lacks nothing
 pub unlisted_lacks_none : (lacking : Maps) (a : ArrayView) (k : ℕ) → slice_get lacking k ≡ None → IsLacking lacking a k → ⊥

@@ -5,9 +5,12 @@ use Rattle.md_commands.specs.declared.source.Source.{Ghosts as SourceGhosts}
 use Rattle.md_examine.specs.declared.sink.Sink.{Ghosts as SinkGhosts}
 use Rattle.md_words.specs.Asks.{Ask, compares, fills}
 use Rattle.md_commands.specs.declared.fault.CommandFault.{CommandFault}
+use Rattle.md_commands.specs.declared.fault.CommandFault.TheVariants.{Options}
+use Rattle.md_commands.specs.declared.option_fault.OptionFault.TheVariants.{MapOfTarget}
 use Rattle.md_messages.specs.Question.{Question}
 use Rattle.md_messages.specs.declared.notices.Notices.{Notices}
 use Rattle.md_cli.specs.Lacking.{Maps}
+use Rattle.md_cli.specs.MapOfTarget.{LacksInTarget}
 use Rattle.md_cli.specs.Opened.{OpenedView}
 use Rattle.md_cli.specs.Performing.{Performs}
 use Rattle.md_cli.specs.StoringLists.{EndsWithLists, FailsToStoreAll, StoresEachList, StoresEarly, stores_lists}
@@ -72,7 +75,18 @@ module _ {R S A : Type 0} (r : SourceGhosts R) (s : SinkGhosts S) (q : Question 
     -- nor in how many chunks members differ
     pub counted : compares ask ≡ false → new.mismatched ≡ old.mismatched
 
+  -- The member that it rebuilds is recovering, and its image lacks some sector of the array: nothing is done, and nobody is asked.
+  pub record RefusesMapOfTarget (before after : OpenedView) (old new : Streams R S A)
+      (result : Result (Unit {0}) CommandFault) : Type 0 where
+    pub lacks : LacksInTarget lacking ask before.mirror.array
+    pub is : result ≡ Err (Options MapOfTarget)
+    pub same : after ≡ before
+    pub unasked : new.asker ≡ old.asker
+    pub unused : new ≡ record old { asker = new.asker }
+
   abbrev pub PerformsOrDeclines : OpenedView → OpenedView → Streams R S A → Streams R S A
       → Result (Unit {0}) CommandFault → Type 0
   PerformsOrDeclines before after old new result =
-      GoesOnAgreed before after old new result ⊎ Declines q n before after old new result
+      (LacksInTarget lacking ask before.mirror.array → ⊥)
+      × (GoesOnAgreed before after old new result ⊎ Declines q n before after old new result)
+      ⊎ RefusesMapOfTarget before after old new result

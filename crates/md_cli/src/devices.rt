@@ -11,6 +11,7 @@ ghost use Rattle.md_cli.specs.Streams.{told_of};
 
 use crate::holes::open_lacking;
 use crate::in_memory::{with_bitmap, with_stand_in};
+use crate::map_of_target::goes_on;
 use crate::opened::{Opened, all_back, room_for};
 use crate::performing_and_storing::perform_and_store;
 use crate::read_watch::ReadWatch;
@@ -20,7 +21,7 @@ use md_commands::{CommandFault, Source};
 use md_device::Device;
 use md_examine::Sink;
 use md_images::{SharedRead, lay_over};
-use md_messages::{Asker, Notices, ask_first};
+use md_messages::{Asker, Notices};
 use md_metadata::GrowFault;
 use md_words::{ArrayCommand, Command};
 use std::alloc::Global;
@@ -82,7 +83,7 @@ fn answer_of_overlays(answer: Result<(), CommandFault>) -> Result<(), CommandFau
 }
 
 /// Opens devices as an array, but for the last where it is to join it, and does a command with it. What images lack by their
-/// maps counts as listed. They come back in their order. Where the command would overwrite what perhaps should stay, by what was noticed, it is asked first. The names are those of
+/// maps counts as listed; of a recovering member that is rebuilt it is refused. They come back in their order. Where the command would overwrite what perhaps should stay, by what was noticed, it is asked first. The names are those of
 /// the devices' images. `notices` gets what is noticed of the array.
 pub(crate) fn open_devices<
     D: Device + Drop + Send,
@@ -118,10 +119,17 @@ pub(crate) fn open_devices<
             return (devices, Err(CommandFault::Open(fault)));
         }
     };
-    let asked = Command::Array(command);
-    notices.note(asked, &mirror);
+    notices.note(Command::Array(command), &mirror);
     let mut opened = Opened { mirror, beside };
-    match ask_first(session.alloc, &mut session.asker, asked, notices, names) {
+    match goes_on(
+        session.alloc,
+        &mut session.asker,
+        session.lacking,
+        command,
+        &opened.mirror,
+        notices,
+        names,
+    ) {
         Ok(()) => {
             let done = perform_and_store(session, command, &mut opened, names);
             (let_go(command, list, opened, notices), done)

@@ -262,8 +262,8 @@ pub(crate) fn is_lacking<D: Device + Drop>(mirror: &Mirror<D>, lacking: &[BadSet
     mirror.state(k).is_in_sync() && lacks_some(mirror, missing, k)
 }
 
-// Whether some sector of the array is missing in the image of member k.
-fn lacks_some<D: Device + Drop>(mirror: &Mirror<D>, missing: &BadSet, k: usize) -> bool
+/// Whether some sector of the array is missing in the image of member k.
+pub(crate) fn lacks_some<D: Device + Drop>(mirror: &Mirror<D>, missing: &BadSet, k: usize) -> bool
     requires within { k < length mirror.now.array.members }
     ensures { (m : MemberView) → IsMember mirror.now.array k m
         → (result ≡ true) ↔ LacksSome missing.now mirror.now.array m }

@@ -22,6 +22,7 @@ mod growing;
 mod holes;
 mod in_memory;
 mod lay_out_each;
+mod map_of_target;
 mod opened;
 mod performing;
 mod performing_and_storing;
