@@ -22,7 +22,7 @@ struct Row {
     more: u64,
 }
 
-const ROWS: [Row; 6] = [
+const ROWS: [Row; 9] = [
     Row {
         each: 64,
         first: 1,
@@ -37,7 +37,7 @@ const ROWS: [Row; 6] = [
         times: 1,
         more: 0,
     },
-    // As many runs as a log has entries, and one more: then all are united.
+    // As many runs as a log has entries, and one more: then two are united.
     Row {
         each: 4,
         first: 1,
@@ -50,22 +50,44 @@ const ROWS: [Row; 6] = [
         first: 1,
         second: (0, 0),
         times: 513,
-        more: 3 * 512,
+        more: 3,
     },
-    // The closest come first.
+    // The closest come first, no more of them than it takes.
     Row {
         each: 8,
         first: 2,
         second: (3, 1),
         times: 300,
-        more: 300,
+        more: 88,
     },
     Row {
         each: 8,
         first: 1,
         second: (4, 2),
         times: 300,
-        more: 2 * 299,
+        more: 2 * 88,
+    },
+    // An entry names two of these at most, and the gap between them.
+    Row {
+        each: 500,
+        first: 1,
+        second: (0, 0),
+        times: 600,
+        more: 499 * 88,
+    },
+    Row {
+        each: 400,
+        first: 1,
+        second: (0, 0),
+        times: 600,
+        more: 399 * 88,
+    },
+    Row {
+        each: 500,
+        first: 1,
+        second: (0, 0),
+        times: 1024,
+        more: 499 * 512,
     },
 ];
 

@@ -141,13 +141,13 @@ const ROWS: [Row; 14] = [
     Row {
         bad: &[Bad::Apart(600, 7)],
         lost: 600,
-        more: 564,
+        more: 176,
         ..ROW
     },
     Row {
         bad: &[Bad::Each(2, 0)],
         lost: 1280,
-        more: 1279,
+        more: 768,
         ..ROW
     },
 ];

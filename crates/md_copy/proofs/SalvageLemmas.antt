@@ -1,5 +1,9 @@
+-- How many entries of a list begin before a sector.
+pub mod EntriesBelow
 -- Sets whose neighbouring runs are united, run by run.
 pub mod RunsUnited
+-- Lost sectors are listed with those between them, and nothing of a chunk that is not missing.
+pub mod LostWidened
 -- Lists that are made on trial: each is the only one of its sectors.
 pub mod Rooms
 -- Which sectors are listed is so where lists, states and the room in the logs are as before.

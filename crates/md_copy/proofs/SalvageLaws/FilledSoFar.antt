@@ -1,6 +1,7 @@
 -- What the target of a salvage lacks once all chunks that were left are filled, and which sectors are to be listed.
-use Rattle.std.proofs.Common.{◌≡◌, ◌∙◌, ℕ, ◌/◌, ◌<◌, List, [], sym, ap, subst, arith, inl, inr}
-use Rattle.std.proofs.lemmas.Bool.{cases_Bool}
+use Rattle.std.proofs.Common.{◌≡◌, ◌∙◌, ◌⊎◌, ℕ, ◌/◌, ◌<◌, true, List, [], sym, ap, subst, arith, inl, inr}
+use Rattle.std.proofs.lemmas.Bool.{both_ways, cases_Bool}
+use Rattle.std.proofs.lemmas.Option.{same_Some}
 use Rattle.md_badblocks.specs.declared.run.Run.{Run}
 use Rattle.md_badblocks.specs.Runs.{IsBad}
 use Rattle.md_bitmap.specs.declared.chunks.Chunks.{Chunks}
@@ -8,6 +9,7 @@ use Rattle.md_bitmap.specs.Chunks.{InChunk}
 use Rattle.md_bitmap.specs.Marks.{Bitmap, is_set}
 use Rattle.md_bitmap.proofs.Limits.{div-lt-div_ceil}
 use Rattle.md_copy.specs.PassLaws.Passes.{PassView}
+use Rattle.md_kept_members.specs.Permitting.{ListsAny}
 use Rattle.md_kept_members.specs.View.{MemberView}
 use Rattle.md_read.specs.Reading.{NoneGives}
 use Rattle.md_state.specs.Members.{IsMember}
@@ -19,14 +21,16 @@ use Rattle.md_copy.specs.Salvaging.Sectors.{AreSectorsHeld, IsLacked}
 use Rattle.md_copy.specs.Salvaging.Steps.{FillsBut}
 use Rattle.md_copy.specs.Salvaging.Widened.{IsWidened}
 use Rattle.md_copy.specs.Table.Sources.{missing_chunks}
+use Rattle.md_copy.proofs.Passing.PassesLack.{pass_lacks}
 use Rattle.md_copy.proofs.Passing.PassesTold.{HoldsSoFar}
 use Rattle.md_copy.proofs.SalvageLaws.ChunkRuns.{GoesSoFar, salvaged_go}
 use Rattle.md_copy.proofs.SalvageLaws.ChunksTo.{all_to, lost_none, none_before}
 use Rattle.md_copy.proofs.SalvageLaws.SalvageLeads.{passed_goes, passed_holds}
-use Rattle.md_copy.proofs.SalvageLaws.SectorsKept.{Stays, pass_stay, salvaged_stay, stays_on}
+use Rattle.md_copy.proofs.SalvageLaws.SectorsKept.{IsAlike, Stays, pass_stay, salvaged_stay, stays_on}
 use Rattle.md_copy.proofs.SalvageLaws.SectorsLacked.{AreLossyClear, lossy_clear}
 use Rattle.md_copy.proofs.SalvageLemmas.HeldSectors.{sectors_of_chunks}
 use Rattle.md_copy.proofs.SalvageLemmas.LeftSalvaged.{SalvagesTo}
+use Rattle.md_copy.proofs.SalvageLemmas.SameRoom.{any_same}
 
 module _ (target : ℕ) (m : MemberView) (pass : PassView) (none copied kept : Bitmap) (lost : List Run) (v f : MirrorView) (fl : FillsBut target m pass none copied kept lost v f) (at : IsMember v.array target m)
     (so : HoldsSoFar target v none (missing_chunks v.array m)) where
@@ -95,12 +99,42 @@ module _ (target : ℕ) (m : MemberView) (pass : PassView) (none copied kept : B
     | inr gives ↦ none_before target s v p f stay_p gives
   ]
 
+  -- a chunk that it lacked it lacks still, or it is copied
+  still_or_copied : (c : ℕ) → c < v.array.marks.chunks → is_missing v.array m c ≡ true → (is_missing f.array mf c ≡ true) ⊎ (is_set copied.bytes c ≡ true)
+  still_or_copied c low missing = elim (cases_Bool (is_set copied.bytes c)) [
+    | inl set ↦ inr set
+    | inr free ↦ elim (cases_Bool (is_set whole.bytes c)) [
+      | inl set ↦ absurd (both_ways (is_set copied.bytes c) free (to.others c (λ is. both_ways (is_set whole.bytes c) ((fl.salvages.are c).0 is).uncopied set) ∙ set))
+      | inr none_set ↦
+          let same = (pass_lacks target (missing_chunks v.array m) pass none whole v p fl.records).missing m tp at fl.at_then (so.ready.recovering m at) c low none_set in
+          inl (to.lacked tp mf fl.at_then fl.there c (subst (λ (q : Bitmap). c < q.chunks) (sym stay_p.members.marks) low) (same ∙ missing) free)
+    ]
+  ]
+
+  alike : IsAlike m mf
+  alike = (let n = filled_stay.members.then target m at in subst (IsAlike m) (same_Some n.0 mf (sym n.1 ∙ fl.there)) n.2)
+
+  -- what it lacks still has each chunk that it lacked and of which it lists a sector: one that is copied it does not list any more
+  pub listed_still : (missing : Bitmap) → AreMissing f.array mf missing → (c : ℕ) → c < v.array.marks.chunks → is_missing v.array m c ≡ true → ListsAny v.array.chunks c m → is_set missing.bytes c ≡ true
+  listed_still missing are c low was lists =
+      let low_f : c < f.array.marks.chunks = subst (λ (q : Bitmap). c < q.chunks) (sym filled_stay.members.marks) low in
+      let bit = are.bits c (subst (λ n. c < n) (sym are.chunks) low_f) in
+      elim (cases_Bool (is_missing f.array mf c)) [
+        | inl lacks ↦ bit ∙ lacks
+        | inr has ↦ elim (still_or_copied c low was) [
+          | inl lacks ↦ bit ∙ lacks
+          | inr set ↦
+              absurd (to.held.unlisted mf fl.there c low_f set (λ lacks. both_ways (is_missing f.array mf c) has lacks)
+              (any_same v.array.chunks f.array.chunks c m mf filled_stay.members.chunks alike.bad alike.offset lists))
+        ]
+      ]
+
   -- what is to be listed
-  module _ (missing : Bitmap) (are : AreMissing f.array mf missing) (gap : ℕ) (listed : List Run) (w : IsWidened gap f.array.chunks missing lost listed) where
+  module _ (missing : Bitmap) (are : AreMissing f.array mf missing) (gap last : ℕ) (listed : List Run) (w : IsWidened gap last f.array.chunks missing lost listed) where
     listed_inside : (s : ℕ) → IsBad listed s → s < f.array.chunks.size
-    listed_inside s bad = elim ((w.bad s).0 bad).0 [
-      | inl is ↦ (lost_lacked s is).inside
-      | inr close ↦ (let last = (lost_lacked close.after close.after_is).inside in let below = close.below in omega (arith, last, below))
+    listed_inside s bad = elim (w.more s bad) [
+      | inl is ↦ (lost_lacked s is.0).inside
+      | inr close ↦ (let high = (lost_lacked close.after close.after_is.0).inside in let below = close.below in omega (arith, high, below))
     ]
 
     pub listed_lacked : (s : ℕ) → IsBad listed s → IsLacked f.array mf s
@@ -112,6 +146,6 @@ module _ (target : ℕ) (m : MemberView) (pass : PassView) (none copied kept : B
           inside = low;
           missing = elim (cases_Bool (is_set missing.bytes (chunk_of s))) [
             | inl set ↦ sym (are.bits (chunk_of s) here) ∙ set
-            | inr free ↦ absurd (((w.bad s).0 bad).1 (chunk_of s) here free (inside_of s low))
+            | inr free ↦ absurd (w.lists.beside s bad (chunk_of s) here free (inside_of s low))
           ];
         }

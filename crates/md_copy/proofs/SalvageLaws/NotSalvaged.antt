@@ -1,5 +1,5 @@
 -- What stands after a salvage that is refused, by its steps.
-use Rattle.std.proofs.Common.{◌≡◌, ◌≢◌, ◌∙◌, ◌⊎◌, ℕ, ◌/◌, ◌<◌, Bool, true, false, List, [], slice_get, refl, sym, ap, subst, arith, inl, inr}
+use Rattle.std.proofs.Common.{◌≡◌, ◌≢◌, ◌∙◌, ◌⊎◌, ℕ, ◌/◌, ◌^◌, ◌<◌, Bool, true, false, List, [], slice_get, refl, sym, ap, subst, arith, inl, inr}
 use Rattle.std.proofs.lemmas.Bool.{both_ways, cases_Bool}
 use Rattle.std.proofs.lemmas.Option.{same_Some}
 use Rattle.md_assembly.specs.States.{is_in_sync, is_recorded}
@@ -36,7 +36,7 @@ use Rattle.md_copy.specs.Salvaging.Losing.{EndsNotingLost, EndsWithout, FailsWit
 use Rattle.md_copy.specs.Salvaging.Refused.{AreLostSoFar, EndsSalvageSo, HasNotSalvaged, ListsStay}
 use Rattle.md_copy.specs.Salvaging.Sectors.{AreLackedChunks, IsLacked}
 use Rattle.md_copy.specs.Salvaging.Steps.{CannotSalvage, EndsSalvageReadied, FailsWhole, FillsBut, RefusesSalvage}
-use Rattle.md_copy.specs.Salvaging.Widened.{IsWidened}
+use Rattle.md_copy.specs.Salvaging.Widened.{IsWidened, TakesFewest}
 use Rattle.md_copy.specs.Readying.Storing.{EndsAtOther}
 use Rattle.md_copy.specs.Passes.Stretches.{slots_before}
 use Rattle.md_copy.specs.Table.Sources.{missing_chunks}
@@ -47,19 +47,21 @@ use Rattle.md_copy.proofs.Leads.RebuildLeads.{begin_holds}
 use Rattle.md_copy.proofs.Passing.PassesTold.{HoldsSoFar}
 use Rattle.md_copy.proofs.Ready.Lowered.{lowered_others, lowered_sound, lowered_then, starts_lowered}
 use Rattle.md_copy.proofs.Ready.Readied.{after_so, may_lowered}
+use Rattle.md_copy.proofs.Ready.StartedAs.{IsAs}
 use Rattle.md_copy.proofs.Ready.StartsReadied.{starts_of}
 use Rattle.md_copy.proofs.Refusals.Refused.{KeepsRest, StaysSo, lasts_none, rest_alone, rest_on, stays_same}
 use Rattle.md_copy.proofs.Refusals.RefusedPasses.{fails_rest}
 use Rattle.md_copy.proofs.Refusals.RefusedSteps.{StopsSo, halted_left, halts_list, list_marks, list_resynced, own_is, preserves_admitted, preserves_lowered, rest_left, rest_list, rest_stores, rest_unadmitted, rest_unrecorded, starts_after, states_admitted, states_lowered, stops_so, was_spare}
 use Rattle.md_copy.proofs.SalvageLaws.ChunkFills.{breaks_within, filled_ready}
 use Rattle.md_copy.proofs.SalvageLaws.ChunkRuns.{GoesSoFar, chunk_ready, salvaged_go}
-use Rattle.md_copy.proofs.SalvageLaws.FilledSoFar.{filled_goes, listed_lacked, lost_gives, lost_lacked, low_of}
+use Rattle.md_copy.proofs.SalvageLaws.FilledSoFar.{filled_goes, listed_lacked, listed_still, lost_gives, lost_lacked, low_of}
 use Rattle.md_copy.proofs.SalvageLaws.SalvageEnded.{fails_moved, none_lost, none_since, not_salvaged, not_salvaged_moved}
 use Rattle.md_copy.proofs.SalvageLaws.SalvageLeads.{lists_lead, passed_goes}
 use Rattle.md_copy.proofs.SalvageLaws.SalvageMoves.{Moves, all_noted, all_stored, chunks_move, fill_moves, left_moves, moves_begun, moves_none, moves_on, moves_part, moves_passed, moves_started, moves_stretch, part_holds, some_noted}
 use Rattle.md_copy.proofs.SalvageLaws.SalvagedFrom.{none_started}
 use Rattle.md_copy.proofs.SalvageLaws.UnsalvagedLeads.{AreRecovering, all_noted_recovers}
 use Rattle.md_copy.proofs.SalvageLemmas.ChunkFilled.{IsRangeOf}
+use Rattle.md_copy.proofs.SalvageLemmas.SameRoom.{any_same}
 
 -- ---- how far the target is rebuilt is recorded, or not
 module _ (target : ℕ) (copied : Bitmap) (stopped new : MirrorView) where
@@ -130,7 +132,7 @@ record IsAt (target : ℕ) (listed : List Run) (old v : MirrorView) : Type 0 whe
 
 module _ (target : ℕ) where
   -- ---- at once
-  at_once : (old new : MirrorView) (m : MemberView) → IsMember old.array target m → new ≡ old → (fault : RebuildFault) → EndsSalvageSo target fault m [] (none_lost target m old new).gap old new → HasNotSalvaged target fault old new
+  at_once : (old new : MirrorView) (m : MemberView) → IsMember old.array target m → new ≡ old → (fault : RebuildFault) → EndsSalvageSo target fault m (none_lost target m old new).missing [] [] old new → HasNotSalvaged target fault old new
   at_once old new m at same fault so =
       let moves : Moves target [] old new = subst (Moves target [] old) (sym same) (moves_none target [] old) in
       not_salvaged_moved target fault [] [] old new m at moves (none_lost target m old new) so
@@ -373,10 +375,11 @@ module _ (target : ℕ) where
                 (none_started target s old ready filled (starts_of target old ready clear b) (lost_gives target b.now pass clear copied kept lost ready filled fl b.there so s bad)),
           );
           gap = fits.gap;
+          to = fits.to;
           widest = fits.widest;
           missing = missing;
-          widened = subst (λ (q : Chunks). IsWidened fits.gap q missing lost listed) (filled_at listed).moves.pre.chunks fits.widened;
-          lacked = λ s bad. lacked_old listed s (listed_lacked target b.now pass clear copied kept lost ready filled fl b.there so missing (are_of fl.now fl.there) fits.gap listed fits.widened s bad);
+          widened = subst (λ (q : Chunks). IsWidened fits.gap fits.to q missing lost listed) (filled_at listed).moves.pre.chunks fits.fewest.widened;
+          lacked = λ s bad. lacked_old listed s (listed_lacked target b.now pass clear copied kept lost ready filled fl b.there so missing (are_of fl.now fl.there) fits.gap fits.to listed fits.fewest.widened s bad);
         }
 
         -- some members list them
@@ -421,6 +424,12 @@ module _ (target : ℕ) where
               lacked = λ c low set.
                   (let early = subst (λ n. c < n) (sym (are.chunks ∙ ap (λ (q : Bitmap). q.chunks) x.marks)) low in
                   x.missing m fl.now b.at fl.there c low (sym (are.bits c early) ∙ set));
+              listed = λ c low lacks lists.
+                  (let st = starts_of target old ready clear b in
+                  let n = st.then target m b.at in
+                  let alike = subst (IsAs m) (same_Some n.0 b.now (sym n.1 ∙ b.there)) n.2 in
+                  listed_still target b.now pass clear copied kept lost ready filled fl b.there so missing are c (subst (λ (q : Bitmap). c < q.chunks) (sym st.marks) low)
+                  (st.missing m b.now b.at b.there c low ∙ lacks) (any_same old.array.chunks ready.array.chunks c m b.now st.chunks alike.bad alike.offset lists));
             }
 
         -- a log has no room, and nothing was listed
@@ -431,17 +440,23 @@ module _ (target : ℕ) where
             | inr more ↦ more.full (room.in_sync k more.some more.member more.list more.in_sync more.list_is)
           ]
 
-          wide : fits.gap ≡ 510
-          wide = elim fits.fits [ inl gap ↦ gap | inr room ↦ absurd (no_room room) ]
+          wide : (fits.gap ≡ 510) × (fits.to ≡ 2 ^ 54)
+          wide = elim fits.fits [ inl widest ↦ widest | inr just ↦ absurd (no_room just.room) ]
+
+          fewest_then : TakesFewest 510 (2 ^ 54) old.array.chunks missing lost listed
+          fewest_then =
+              subst (λ (q : Chunks). TakesFewest 510 (2 ^ 54) q missing lost listed) (filled_at listed).moves.pre.chunks
+              (subst (λ (n : ℕ). TakesFewest 510 n filled.array.chunks missing lost listed) wide.1
+              (subst (λ (n : ℕ). TakesFewest n fits.to filled.array.chunks missing lost listed) wide.0 fits.fewest))
 
           still_full : (after : Bitmap) (new : MirrorView) → RecordsAtEnd target after filled new
-              → ((k ≡ target) × ((missing : Bitmap) × AreLackedChunks old.array m missing × HasFullLog k (in_chunks_but old.array.chunks missing listed) (in_runs listed) new.array)) ⊎ LacksRoomForMore k new.array listed
+              → ((k ≡ target) × HasFullLog k (in_chunks_but old.array.chunks missing listed) (in_runs listed) new.array) ⊎ LacksRoomForMore k new.array listed
           still_full after new leaves = elim lacks [
             | inl own ↦
                 let full = left_full target after filled new (in_chunks_but filled.array.chunks missing listed) (in_runs listed) go_f.ready.sound leaves own.1 in
                 let now : HasFullLog target (in_chunks_but old.array.chunks missing listed) (in_runs listed) new.array =
                 subst (λ (q : Chunks). HasFullLog target (in_chunks_but q missing listed) (in_runs listed) new.array) (filled_at listed).moves.pre.chunks full in
-                inl (own.0, (missing, lacked_chunks, subst (λ (j : ℕ). HasFullLog j (in_chunks_but old.array.chunks missing listed) (in_runs listed) new.array) (sym own.0) now))
+                inl (own.0, subst (λ (j : ℕ). HasFullLog j (in_chunks_but old.array.chunks missing listed) (in_runs listed) new.array) (sym own.0) now)
             | inr more ↦
                 let other : k ≢ target = λ same.
                 both_ways (is_in_sync more.member.state) (out_of_sync more.member.state (recovers more.member (ap (slice_get filled.array.members) (sym same) ∙ more.in_sync.member))) more.in_sync.in_sync in
@@ -464,7 +479,8 @@ module _ (target : ℕ) where
               not_salvaged_moved target (LogFull k) lost listed old new m b.at (moves_on target listed old filled new a.moves left) (far new left)
               (inr (record {
                 running = left_running target after filled new a.running leaving;
-                united = wide;
+                missing_are = lacked_chunks;
+                fewest = fewest_then;
                 lists = lists_stay target old new none;
                 full = still_full after new leaving;
               }))

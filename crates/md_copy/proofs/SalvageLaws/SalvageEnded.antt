@@ -36,9 +36,10 @@ pub none_lost : (target : ℕ) (m : MemberView) (old new : MirrorView) → AreLo
 none_lost target m old new = record {
   none = λ s bad. absurd bad;
   gap = 0;
+  to = 0;
   widest = omega arith;
   missing = old.array.marks;
-  widened = record { canonical = tt; bad = λ s. (λ bad. absurd bad, λ either. elim either.0 [ inl bad ↦ bad | inr close ↦ absurd close.after_is ]) };
+  widened = record { lists = record { canonical = tt; all = λ s there. there.0; beside = λ s bad. absurd bad }; more = λ s bad. absurd bad };
   lacked = λ s bad. absurd bad;
 }
 
@@ -85,7 +86,7 @@ module _ (target : ℕ) (fault : RebuildFault) (lost listed : List Run) (old mid
       none_since s old last new (λ k d at_d. let e = x.pre.disk_then k d at_d in y.disk_then k e.0 e.1) (λ k d e at_d at_e. (z.stays k d e at_d at_e).counted) (λ k d e at_d at_e. (z.stays k d e at_d at_e).grown)
       (none_since s old mid last x.pre.disk_then y.counted y.grown none)
 
-  pub not_salvaged : (far : AreLostSoFar target m lost listed old mid) → EndsSalvageSo target fault m listed far.gap old new → HasNotSalvaged target fault old new
+  pub not_salvaged : (far : AreLostSoFar target m lost listed old mid) → EndsSalvageSo target fault m far.missing lost listed old new → HasNotSalvaged target fault old new
   not_salvaged far so =
       let between = x.pre.then target m at in
       let now = y.then target between.0 between.1 in
@@ -108,7 +109,7 @@ module _ (target : ℕ) (fault : RebuildFault) (lost listed : List Run) (old mid
         others = λ j d f n other runs at_d at_f at_n. kept_last j d f n other at_d (sym (z.keeps j other runs) ∙ at_f) at_n;
         lost = lost;
         listed = listed;
-        so_far = record { none = λ s bad. (let was = far.none s bad in (was.0, none_then s was.1)); gap = far.gap; widest = far.widest; missing = far.missing; widened = far.widened; lacked = far.lacked };
+        so_far = record { none = λ s bad. (let was = far.none s bad in (was.0, none_then s was.1)); gap = far.gap; to = far.to; widest = far.widest; missing = far.missing; widened = far.widened; lacked = far.lacked };
         lists = lists;
         still = λ k n w other apart at_n at_w. (let o = x.pre.then k n at_n in same.states k o.0 w other apart o.1 (was_last k w at_w) ∙ x.states k n o.0 other at_n o.1);
         marks = z.marks ∙ same.marks ∙ x.pre.marks;
@@ -118,6 +119,6 @@ module _ (target : ℕ) (fault : RebuildFault) (lost listed : List Run) (old mid
 
 -- all is left as it was up to the end
 pub not_salvaged_moved : (target : ℕ) (fault : RebuildFault) (lost listed : List Run) (old new : MirrorView) (m : MemberView) → IsMember old.array target m → Moves target listed old new
-    → (far : AreLostSoFar target m lost listed old new) → EndsSalvageSo target fault m listed far.gap old new → HasNotSalvaged target fault old new
+    → (far : AreLostSoFar target m lost listed old new) → EndsSalvageSo target fault m far.missing lost listed old new → HasNotSalvaged target fault old new
 not_salvaged_moved target fault lost listed old new m at x far so =
     not_salvaged target fault lost listed old new new new m at x (rest_none target new) (lasts_none target fault new) (stays_same target fault new.array new.array refl) far so

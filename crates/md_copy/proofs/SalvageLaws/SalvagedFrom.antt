@@ -18,7 +18,7 @@ use Rattle.md_array.specs.Consistency.{IsConsistent}
 use Rattle.md_copy.specs.Salvaging.Salvaged.{IsBesideWritten, IsSalvaged, IsSectorServedThen}
 use Rattle.md_copy.specs.Salvaging.Sectors.{IsLacked}
 use Rattle.md_copy.proofs.Ready.StartedAs.{IsAs, StartsAs, starts_honest}
-use Rattle.md_copy.proofs.SalvageLemmas.SameRoom.{HasSameRoom, HaveSameRoom, fits_before}
+use Rattle.md_copy.proofs.SalvageLemmas.SameRoom.{HasSameRoom, HaveSameRoom, any_same, fits_before}
 
 -- what no member in sync gives from then on none gives in all
 pub none_started : (target s : ℕ) (old v w : MirrorView) → StartsAs target old v → NoneGives s v w → NoneGives s old w
@@ -170,6 +170,9 @@ module _ (target : ℕ) (old v : MirrorView) (sound : IsConsistent old) (st : St
     missing_are = record {
       chunks = r.missing_are.chunks ∙ ap (λ (q : Bitmap). q.chunks) st.marks;
       lacked = λ c low set. sym (st.missing l r.member was.1 r.at c low) ∙ r.missing_are.lacked c (subst (λ (q : Bitmap). c < q.chunks) (sym st.marks) low) set;
+      listed = λ c low lacks lists.
+          r.missing_are.listed c (subst (λ (q : Bitmap). c < q.chunks) (sym st.marks) low) (st.missing l r.member was.1 r.at c low ∙ lacks)
+          (any_same old.array.chunks v.array.chunks c l r.member st.chunks alike.bad alike.offset lists);
     };
     fits = fits_before target r.missing lost old.array v.array listed same_room r.fits;
     own = own_before;

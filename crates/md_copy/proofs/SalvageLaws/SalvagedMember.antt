@@ -21,7 +21,7 @@ use Rattle.md_model.proofs.Cases.{by_test}
 use Rattle.md_device.proofs.Failing.{fails_still}
 use Rattle.md_read.specs.Reading.{IsReadOfMember, NoneGives}
 use Rattle.md_state.specs.Members.{IsInSync, IsMember}
-use Rattle.md_state.specs.Missing.{is_missing}
+use Rattle.md_state.specs.Missing.{AreMissing, is_missing}
 use Rattle.md_state.specs.View.{Disk, MirrorView}
 use Rattle.md_array.specs.Consistency.{IsConsistent}
 use Rattle.md_array.specs.Steps.Enrol.{HoldsContent, KeepsData}
@@ -41,6 +41,7 @@ use Rattle.md_copy.proofs.Passing.PassesLack.{pass_lacks}
 use Rattle.md_copy.proofs.Passing.PassesTold.{HoldsSoFar}
 use Rattle.md_copy.proofs.SalvageLaws.ChunkRuns.{GoesSoFar, salvaged_go}
 use Rattle.md_copy.proofs.SalvageLaws.ChunksTo.{all_to, filled_all, lost_none, none_before}
+use Rattle.md_copy.proofs.SalvageLaws.FilledSoFar.{listed_still}
 use Rattle.md_copy.proofs.SalvageLaws.LastSteps.{last_bad, last_counted, last_grown, last_many, last_own, last_state, other_data, other_lists, other_out, other_then, own_data, own_list, sector_short}
 use Rattle.md_copy.proofs.SalvageLaws.SalvageLeads.{passed_goes, passed_holds}
 use Rattle.md_copy.proofs.SalvageLaws.SectorsBeside.{salvaged_byte, same_bytes}
@@ -48,6 +49,7 @@ use Rattle.md_copy.proofs.SalvageLaws.SectorsKept.{DevicesStay, IsAlike, Stays, 
 use Rattle.md_copy.proofs.SalvageLaws.SectorsLacked.{AreLossyClear, copied_missing, lossy_clear, missing_was}
 use Rattle.md_copy.proofs.SalvageLemmas.HeldSectors.{sectors_of_chunks}
 use Rattle.md_copy.proofs.SalvageLemmas.LeftSalvaged.{SalvagesTo}
+use Rattle.md_copy.proofs.SalvageLemmas.LostWidened.{in_gap}
 use Rattle.md_copy.proofs.SalvageLemmas.SameRoom.{HasSameRoom, HaveSameRoom, fits_before}
 use Rattle.md_copy.proofs.Stored.StoringKeeps.{KeepsAll}
 
@@ -218,9 +220,9 @@ module _ (target : ℕ) (m : MemberView) (none : Bitmap) (v new : MirrorView) (t
       en.missing_are.bits c (subst (λ n. c < n) (sym en.missing_are.chunks) low) ∙ ap (λ (z : MemberView). is_missing f.array z c) own
 
   listed_inside : (s : ℕ) → IsBad told.listed s → s < v.array.chunks.size
-  listed_inside s bad = elim ((h.fits.widened.bad s).0 bad).0 [
-    | inl lost ↦ (lost_missing s lost).0
-    | inr gap ↦ (let last = (lost_missing gap.after gap.after_is).0 in let below = gap.below in omega (arith, last, below))
+  listed_inside s bad = elim (h.fits.fewest.widened.more s bad) [
+    | inl lost ↦ (lost_missing s lost.0).0
+    | inr gap ↦ (let last = (lost_missing gap.after gap.after_is.0).0 in let below = gap.below in omega (arith, last, below))
   ]
 
   listed_missing : (s : ℕ) → IsBad told.listed s → is_missing f.array mf (chunk_of s) ≡ true
@@ -230,7 +232,7 @@ module _ (target : ℕ) (m : MemberView) (none : Bitmap) (v new : MirrorView) (t
       elim (cases_Bool (is_set h.missing.bytes (chunk_of s))) [
         | inl set ↦ sym (missing_bit (chunk_of s) early) ∙ set
         | inr free ↦
-            absurd (((h.fits.widened.bad s).0 bad).1 (chunk_of s) (subst (λ n. chunk_of s < n) (sym en.missing_are.chunks) early) free
+            absurd (h.fits.fewest.widened.lists.beside s bad (chunk_of s) (subst (λ n. chunk_of s < n) (sym en.missing_are.chunks) early) free
             (subst (λ (q : Chunks). InChunk q.sectors q.size (chunk_of s) s) (sym f_chunks) (inside_of s low)))
       ]
 
@@ -239,8 +241,8 @@ module _ (target : ℕ) (m : MemberView) (none : Bitmap) (v new : MirrorView) (t
 
   pub lost_listed : (s : ℕ) → IsBad told.lost s → IsBad told.listed s
   lost_listed s bad =
-      (h.fits.widened.bad s).1 (
-        inl bad,
+      h.fits.fewest.widened.lists.all s (
+        bad,
         λ c low free inside.
             (let here = its c s (subst (λ (q : Chunks). InChunk q.sectors q.size c s) f_chunks inside) in
             let missing = ap (is_missing f.array mf) here ∙ (lost_missing s bad).1 in
@@ -573,15 +575,17 @@ module _ (target : ℕ) (m : MemberView) (none : Bitmap) (v new : MirrorView) (t
           ],
         );
         lost_are = λ s bad. (lacked_v s (lost_lacked s bad), gives_last s (lost_gives s bad));
-        more = λ s bad. elim ((h.fits.widened.bad s).0 bad).0 [
-          | inl lost ↦ inl lost
-          | inr gap ↦ inr (lacked_v s (listed_lacked s bad), (h.fits.gap, h.fits.widest, gap))
+        more = λ s bad. elim (h.fits.fewest.widened.more s bad) [
+          | inl lost ↦ inl lost.0
+          | inr gap ↦ inr (lacked_v s (listed_lacked s bad), (h.fits.gap, h.fits.widest, in_gap h.fits.gap h.fits.to f.array.chunks h.missing told.lost s gap))
         ];
         all = lost_listed;
         missing = h.missing;
         missing_are = record {
           chunks = en.missing_are.chunks ∙ ap (λ (q : Bitmap). q.chunks) f_marks;
           lacked = λ c low set. was_missing c (sym (missing_bit c (subst (λ (q : Bitmap). c < q.chunks) (sym f_marks) low)) ∙ set);
+          listed = listed_still target m h.pass none h.copied h.kept told.lost v f fl at so h.missing
+              (subst (λ (z : MemberView). AreMissing f.array z h.missing) (same_Some en.member mf (sym en.at ∙ at_f)) en.missing_are);
         };
         fits = fits_before target h.missing told.lost v.array f.array told.listed same_room h.fits;
         own = λ sector.

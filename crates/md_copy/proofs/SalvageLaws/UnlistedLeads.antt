@@ -1,5 +1,5 @@
 -- A salvage for which a log has no room is a list of events by which no list of a member changes.
-use Rattle.std.proofs.Common.{◌≡◌, ◌⊎◌, ℕ, Bool, List, [], ◌∷◌, ◌++◌, refl, sym, subst, inl, inr}
+use Rattle.std.proofs.Common.{◌≡◌, ◌⊎◌, ℕ, Bool, List, [], ◌∷◌, ◌++◌, sym, subst, inl, inr}
 use Rattle.md_badblocks.specs.declared.run.Run.{Run}
 use Rattle.md_bitmap.specs.Marks.{Bitmap}
 use Rattle.md_model.specs.Events.{Event, MemberPart}

@@ -116,9 +116,9 @@ module _ (target : ℕ) (v : MirrorView) (sound : IsConsistent v) (m : MemberVie
   many = are.chunks
 
   inside : (s : ℕ) → IsBad listed s → s < size
-  inside s bad = elim ((fits.widened.bad s).0 bad).0 [
-    | inl is ↦ low s is
-    | inr between ↦ let below = between.below in let under = low between.after between.after_is in omega (arith, below, under)
+  inside s bad = elim (fits.fewest.widened.more s bad) [
+    | inl is ↦ low s is.0
+    | inr between ↦ let below = between.below in let under = low between.after between.after_is.0 in omega (arith, below, under)
   ]
 
   chunk_low : (s : ℕ) → s < size → s / width < missing.chunks
@@ -131,15 +131,15 @@ module _ (target : ℕ) (v : MirrorView) (sound : IsConsistent v) (m : MemberVie
         inside = within;
         missing = elim (cases_Bool (is_set missing.bytes (s / width))) [
           | inl set ↦ sym (are.bits (s / width) (chunk_low s within)) ∙ set
-          | inr clear ↦ absurd (((fits.widened.bad s).0 bad).1 (s / width) (chunk_low s within) clear (its_chunk size width s wide within))
+          | inr clear ↦ absurd (fits.fewest.widened.lists.beside s bad (s / width) (chunk_low s within) clear (its_chunk size width s wide within))
         ];
       }
 
   -- what is lost of what it lacks is listed
   lost_listed : (s : ℕ) → IsLacked v.array m s → IsBad lost s → IsBad listed s
   lost_listed s lacks bad =
-      (fits.widened.bad s).1 (
-        inl bad,
+      fits.fewest.widened.lists.all s (
+        bad,
         λ c below clear in_c.
             (let same : c ≡ s / width = chunk_unique size width s c wide in_c in
             true≢false (sym (are.bits (s / width) (chunk_low s lacks.inside) ∙ lacks.missing) ∙ sym (ap (is_set missing.bytes) same) ∙ clear)),

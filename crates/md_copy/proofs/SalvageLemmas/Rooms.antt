@@ -1,12 +1,11 @@
 -- Lists that are made on trial: each is the only one of its sectors.
-use Rattle.std.proofs.Common.{◌≡◌, ◌≢◌, ◌∙◌, ◌↔◌, ℕ, ◌+◌, ◌<◌, ◌≤◌, Bool, true, false, leb, leb-true, le-leb, List, [], length, IfOk, MatchResult, Ok, Err, Result, sym, ap, subst, arith, inl, inr}
+use Rattle.std.proofs.Common.{◌≡◌, ◌≢◌, ◌∙◌, ◌↔◌, ℕ, ◌+◌, ◌-◌, ◌^◌, ◌<◌, ◌≤◌, Bool, true, false, leb, leb-true, le-leb, List, [], length, IfOk, MatchResult, Ok, Err, Result, sym, ap, subst, arith, inl, inr}
 use Rattle.std.proofs.lemmas.Bool.{both_ways, cases_eq}
 use Rattle.std.proofs.lemmas.Option.{same_Some, slice_get_within}
 use Rattle.md_assembly.specs.States.{is_in_sync}
 use Rattle.md_badblocks.specs.declared.run.Run.{Run}
 use Rattle.md_badblocks.specs.Runs.{entries_needed}
 use Rattle.md_badblocks.proofs.Unique.{same_runs}
-use Rattle.md_bitmap.specs.declared.chunks.Chunks.{Chunks}
 use Rattle.md_bitmap.specs.Marks.{Bitmap}
 use Rattle.md_kept_members.specs.Enrolling.{HasRoomFor, log_room}
 use Rattle.md_kept_members.specs.SectorLists.{IsListMore, IsListOf, in_chunks_but, in_runs}
@@ -14,19 +13,17 @@ use Rattle.md_kept_members.specs.View.{MemberView}
 use Rattle.md_state.specs.Members.{IsMember}
 use Rattle.md_state.specs.View.{ArrayView}
 use Rattle.md_state.specs.Steps.Enrol.{HasFullLog}
-use Rattle.md_copy.specs.Salvaging.Fitting.{FailsLook, FailsLookInSync, HasOwnRoom, HasRoomIfInSync, HaveRoomFor, LacksRoomForMore}
-use Rattle.md_copy.specs.Salvaging.Widened.{IsWidened}
+use Rattle.md_copy.specs.Salvaging.Fitting.{FailsLook, FailsLookInSync, HasOwnRoom, HasRoomIfInSync, HaveRoomFor, LacksRoomForMore, LacksRoomWith}
+use Rattle.md_copy.specs.Salvaging.Widened.{TakesFewest}
 use Rattle.md_copy.specs.declared.beginning.fault.RebuildFault.{RebuildFault}
 use Rattle.md_copy.specs.declared.beginning.fault.RebuildFault.TheVariants.{LogFull, NoMemory}
+use Rattle.md_copy.proofs.SalvageLemmas.LostWidened.{none_more}
 
 pub one_more : (more : ℕ → Bool) (m : MemberView) (a b : List Run) → IsListMore more m a → IsListMore more m b → a ≡ b
 one_more more m a b p q = same_runs 0 0 a b p.canonical q.canonical (λ s bad. (q.bad s).1 ((p.bad s).0 bad)) (λ s bad. (p.bad s).1 ((q.bad s).0 bad))
 
 pub one_of : (copied lost : ℕ → Bool) (m : MemberView) (a b : List Run) → IsListOf copied lost m a → IsListOf copied lost m b → a ≡ b
 one_of copied lost m a b p q = same_runs 0 0 a b p.canonical q.canonical (λ s bad. (q.bad s).1 ((p.bad s).0 bad)) (λ s bad. (p.bad s).1 ((q.bad s).0 bad))
-
-pub one_widened : (gap : ℕ) (chunks : Chunks) (missing : Bitmap) (lost a b : List Run) → IsWidened gap chunks missing lost a → IsWidened gap chunks missing lost b → a ≡ b
-one_widened gap chunks missing lost a b p q = same_runs 0 0 a b p.canonical q.canonical (λ s bad. (q.bad s).1 ((p.bad s).0 bad)) (λ s bad. (p.bad s).1 ((q.bad s).0 bad))
 
 -- ---- one log
 module _ (a : ArrayView) (listed : List Run) (k : ℕ) (m : MemberView) (at : IsMember a k m) where
@@ -99,16 +96,21 @@ looked target missing listed a own (Err fault) h = absurd h
 
 -- ---- the gap
 abbrev pub AreTooSmall : ℕ → ℕ → Bitmap → List Run → ArrayView → Type 0
-AreTooSmall gap target missing lost a = (less : ℕ) (other : List Run) → less < gap → IsWidened less a.chunks missing lost other → HaveRoomFor target missing a other → ⊥
+AreTooSmall gap target missing lost a = (less : ℕ) → less < gap → LacksRoomWith less (2 ^ 54) target missing lost a
 
-pub small_more : (gap target : ℕ) (missing : Bitmap) (lost : List Run) (a : ArrayView) (listed : List Run) → AreTooSmall gap target missing lost a → IsWidened gap a.chunks missing lost listed
-    → (HaveRoomFor target missing a listed → ⊥) → AreTooSmall (gap + 1) target missing lost a
-small_more gap target missing lost a listed before widened none less other low is room = elim (cases_eq less gap) [
-  | inl here ↦
-      let same = one_widened gap a.chunks missing lost other listed (subst (λ n. IsWidened n a.chunks missing lost other) here is) widened in
-      none (subst (HaveRoomFor target missing a) same room)
-  | inr more ↦ before less other (omega (arith, low, more)) is room
+pub small_more : (gap target : ℕ) (missing : Bitmap) (lost : List Run) (a : ArrayView) (listed : List Run) → AreTooSmall gap target missing lost a
+    → TakesFewest gap (2 ^ 54) a.chunks missing lost listed → (HaveRoomFor target missing a listed → ⊥) → AreTooSmall (gap + 1) target missing lost a
+small_more gap target missing lost a listed before fewest none less low = elim (cases_eq less gap) [
+  | inl here ↦ subst (λ n. LacksRoomWith n (2 ^ 54) target missing lost a) (sym here) (record { listed = listed; fewest = fewest; none = none })
+  | inr more ↦ before less (omega (arith, low, more))
 ]
+
+-- with all gaps of a width some log has no room: with none of the next one it is so too
+pub small_none : (gap target : ℕ) (missing : Bitmap) (lost : List Run) (a : ArrayView) → AreTooSmall gap target missing lost a → 0 < gap → LacksRoomWith gap 0 target missing lost a
+small_none gap target missing lost a small some =
+    let lacks = small (gap - 1) (omega (arith, some)) in
+    subst (λ n. LacksRoomWith n 0 target missing lost a) (omega (arith, some))
+    (record { listed = lacks.listed; fewest = none_more (gap - 1) a.chunks missing lost lacks.listed lacks.fewest; none = lacks.none })
 
 -- what holds on Ok, by what holds then
 pub if_ok : {T E : Type 0} {P Q : T → Type 0} (r : Result T E) → ((x : T) → P x → Q x) → IfOk r P → IfOk r Q

@@ -1,18 +1,20 @@
 -- Which sectors are listed goes by the lists of the members, by who is in sync, by where data begin, and by the room in the logs: where these are as before,
 -- it is so.
-use Rattle.std.proofs.Common.{◌≡◌, ◌∙◌, ◌⊎◌, ◌↔◌, ℕ, ◌^◌, ◌<◌, ◌≤◌, Bool, List, sym, ap, subst, inl, inr}
+use Rattle.std.proofs.Common.{◌≡◌, ◌∙◌, ◌⊎◌, ◌↔◌, ℕ, ◌+◌, ◌^◌, ◌<◌, ◌≤◌, Bool, List, sym, subst, inl, inr}
 use Rattle.md_assembly.specs.States.{is_in_sync}
 use Rattle.md_badblocks.specs.declared.run.Run.{Run}
 use Rattle.md_badblocks.specs.Runs.{IsBad, entries_needed}
 use Rattle.md_bitmap.specs.declared.chunks.Chunks.{Chunks}
+use Rattle.md_bitmap.specs.Chunks.{InChunk}
 use Rattle.md_bitmap.specs.Marks.{Bitmap}
 use Rattle.md_kept_members.specs.Enrolling.{log_room}
+use Rattle.md_kept_members.specs.Permitting.{ListsAny}
 use Rattle.md_kept_members.specs.SectorLists.{IsListMore, IsListOf, IsPlaced, in_chunks_but, in_runs}
 use Rattle.md_kept_members.specs.View.{MemberView}
 use Rattle.md_state.specs.Members.{IsInSync, IsMember}
 use Rattle.md_state.specs.View.{ArrayView}
-use Rattle.md_copy.specs.Salvaging.Fitting.{HaveRoomFor, IsFitting}
-use Rattle.md_copy.specs.Salvaging.Widened.{IsWidened}
+use Rattle.md_copy.specs.Salvaging.Fitting.{HaveRoomFor, IsFitting, LacksRoomWith}
+use Rattle.md_copy.specs.Salvaging.Widened.{TakesFewest}
 
 -- ---- a member
 pub record HasSameRoom (l n : MemberView) : Type 0 where
@@ -66,11 +68,34 @@ room_then target missing a b listed h room = record {
       subst (λ (r : ℕ). entries_needed list ≤ r) (sym x.2.room) (room.in_sync k some x.0 list was (list_more (in_runs listed) x.0 n list x.2 is)));
 }
 
+lacks_before : (gap to target : ℕ) (missing : Bitmap) (lost : List Run) (a b : ArrayView) → HaveSameRoom a b → LacksRoomWith gap to target missing lost b → LacksRoomWith gap to target missing lost a
+lacks_before gap to target missing lost a b h lacks = record {
+  listed = lacks.listed;
+  fewest = subst (λ (q : Chunks). TakesFewest gap to q missing lost lacks.listed) h.chunks lacks.fewest;
+  none = λ room. lacks.none (room_then target missing a b lacks.listed h room);
+}
+
 pub fits_before : (target : ℕ) (missing : Bitmap) (lost : List Run) (a b : ArrayView) (listed : List Run) → HaveSameRoom a b → IsFitting target missing lost b listed → IsFitting target missing lost a listed
 fits_before target missing lost a b listed h fits = record {
   gap = fits.gap;
+  to = fits.to;
   widest = fits.widest;
-  widened = subst (λ (q : Chunks). IsWidened fits.gap q missing lost listed) h.chunks fits.widened;
-  least = λ less other low is room. fits.least less other low (subst (λ (q : Chunks). IsWidened less q missing lost other) (sym h.chunks) is) (room_then target missing a b other h room);
-  fits = elim fits.fits [ inl gap ↦ inl gap | inr room ↦ inr (room_then target missing b a listed (same_before a b h) room) ];
+  fewest = subst (λ (q : Chunks). TakesFewest fits.gap fits.to q missing lost listed) h.chunks fits.fewest;
+  least = λ less low. lacks_before less (2 ^ 54) target missing lost a b h (fits.least less low);
+  fits = elim fits.fits [
+    | inl widest ↦ inl widest
+    | inr just ↦
+        inr (record {
+          room = room_then target missing b a listed (same_before a b h) just.room;
+          few = λ some. (let is = just.few some in (is.0, is.1, lacks_before fits.gap is.0 target missing lost a b h is.2));
+        })
+  ];
+}
+
+-- a member that lists as another one does lists a sector of the same chunks
+pub any_same : (chunks other : Chunks) (c : ℕ) (m n : MemberView) → other ≡ chunks → n.bad ≡ m.bad → n.superblock.data_offset ≡ m.superblock.data_offset → ListsAny chunks c m → ListsAny other c n
+any_same chunks other c m n same bad offset lists = record {
+  sector = lists.sector;
+  inside = subst (λ (q : Chunks). InChunk q.sectors q.size c lists.sector) (sym same) lists.inside;
+  bad = subst (λ (o : ℕ). IsBad n.bad (o + lists.sector)) (sym offset) (subst (λ (runs : List Run). IsBad runs (m.superblock.data_offset + lists.sector)) (sym bad) lists.bad);
 }

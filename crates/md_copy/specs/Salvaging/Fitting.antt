@@ -1,5 +1,5 @@
 -- Which sectors are listed so that each log has room for them (this project's own).
-use Rattle.std.specs.Prelude.{◌≡◌, ◌≢◌, ◌⊎◌, ℕ, ◌<◌, ◌≤◌, List, []}
+use Rattle.std.specs.Prelude.{◌≡◌, ◌≢◌, ◌⊎◌, ℕ, ◌+◌, ◌^◌, ◌<◌, ◌≤◌, List, []}
 use Rattle.md_badblocks.specs.declared.run.Run.{Run}
 use Rattle.md_bitmap.specs.Marks.{Bitmap}
 use Rattle.md_kept_members.specs.Enrolling.{HasRoomFor}
@@ -8,7 +8,7 @@ use Rattle.md_kept_members.specs.View.{MemberView}
 use Rattle.md_state.specs.Members.{IsInSync, IsMember}
 use Rattle.md_state.specs.Steps.Enrol.{HasFullLog}
 use Rattle.md_state.specs.View.{ArrayView}
-use Rattle.md_copy.specs.Salvaging.Widened.{IsWidened}
+use Rattle.md_copy.specs.Salvaging.Widened.{TakesFewest}
 use Rattle.md_copy.specs.declared.beginning.fault.RebuildFault.{RebuildFault}
 use Rattle.md_copy.specs.declared.beginning.fault.RebuildFault.TheVariants.{LogFull, NoMemory}
 
@@ -55,12 +55,25 @@ FailsLook target missing listed a (LogFull k) = LacksRoomAt target missing liste
 FailsLook target missing listed a NoMemory = Unit {0}
 FailsLook target missing listed a fault = ⊥
 
--- The lost ones and those between them are listed, all gaps of a width at once and the narrowest first, until each log has room: with any narrower width
--- some log has none. An entry of a log names at most 512 sectors, so that no gap of more than 510 between two runs saves one. Where no width up to that
--- gives each log room, 510 is the answer all the same. Another choice of gaps might have room then: to unite two long runs can cost an entry.
+-- Of the lists in which gaps up to these may be closed, one that takes the fewest entries does not fit into some log.
+pub record LacksRoomWith (gap to target : ℕ) (missing : Bitmap) (lost : List Run) (a : ArrayView) : Type 0 where
+  pub listed : List Run
+  pub fewest : TakesFewest gap to a.chunks missing lost listed
+  pub none : HaveRoomFor target missing a listed → ⊥
+
+-- Each log has room. Where gaps of just this width are closed before `to`, some log has none if these are closed only before the sector in front of it.
+pub record IsJustRoom (gap to target : ℕ) (missing : Bitmap) (lost : List Run) (a : ArrayView) (listed : List Run) : Type 0 where
+  pub room : HaveRoomFor target missing a listed
+  pub few : 0 < gap → (less : ℕ) × (to ≡ less + 1) × LacksRoomWith gap less target missing lost a
+
+-- The lost ones are listed, and those between two of them, the narrowest gaps first, in the fewest entries, until each log has room: with any narrower
+-- width some log has none, nor with fewer gaps of just this width, from the left. An entry of a log names at most 512 sectors, so that no gap of more than
+-- 510 between two runs saves one. Where no width up to that gives each log room, the answer is of 510 all the same: then no list of the lost sectors takes
+-- fewer entries. (Where some log lists sectors already, another choice of gaps might take fewer of it then.)
 pub record IsFitting (target : ℕ) (missing : Bitmap) (lost : List Run) (a : ArrayView) (listed : List Run) : Type 0 where
   pub gap : ℕ
+  pub to : ℕ
   pub widest : gap ≤ 510
-  pub widened : IsWidened gap a.chunks missing lost listed
-  pub least : (less : ℕ) (other : List Run) → less < gap → IsWidened less a.chunks missing lost other → HaveRoomFor target missing a other → ⊥
-  pub fits : (gap ≡ 510) ⊎ HaveRoomFor target missing a listed
+  pub fewest : TakesFewest gap to a.chunks missing lost listed
+  pub least : (less : ℕ) → less < gap → LacksRoomWith less (2 ^ 54) target missing lost a
+  pub fits : ((gap ≡ 510) × (to ≡ 2 ^ 54)) ⊎ IsJustRoom gap to target missing lost a listed

@@ -29,10 +29,11 @@ pub record IsLacked (a : ArrayView) (m : MemberView) (s : ℕ) : Type 0 where
   pub inside : s < a.chunks.size
   pub missing : is_missing a m (s / a.chunks.sectors) ≡ true
 
--- Of the chunks that the member lacks this is a set.
+-- Of the chunks that the member lacks this is a set, and it has each of which the member lists a sector.
 pub record AreLackedChunks (a : ArrayView) (m : MemberView) (set : Bitmap) : Type 0 where
   pub chunks : set.chunks ≡ a.marks.chunks
   pub lacked : (c : ℕ) → c < a.marks.chunks → is_set set.bytes c ≡ true → is_missing a m c ≡ true
+  pub listed : (c : ℕ) → c < a.marks.chunks → is_missing a m c ≡ true → ListsAny a.chunks c m → is_set set.bytes c ≡ true
 
 -- the target lacks these sectors
 abbrev pub AreLacked : MirrorView → ℕ → ℕ → ℕ → Type 0

@@ -42,11 +42,11 @@ use std::thread::Threads;
 /// gives are lost: they are listed on all members in sync, and on the target, which comes into sync then.
 ///
 /// Where the log of one of them has no room for so many runs, good sectors that lie between two lost ones are listed
-/// too, on all of them, and count as lost from then on: all gaps of a width at once, the narrowest first, of up to 510
-/// sectors. Where that is not enough, `LogFull` names a member whose log has no room: the target, or where there is
-/// something to list, one in sync. It is found before anything is listed, so that all lists are as before, in memory and
-/// on the devices. The target is recovering then, and has what was copied. A target without a log can list none, and is
-/// refused at once.
+/// too, on all of them, and count as lost from then on: the narrowest gaps first, of the widest no more than it takes, and
+/// each so that it saves an entry. Where the fewest entries there can be are too many, `LogFull` names a member whose log
+/// has no room: the target, or where there is something to list, one in sync. It is found before anything is listed, so
+/// that all lists are as before, in memory and on the devices. The target is recovering then, and has what was copied. A
+/// target without a log can list none, and is refused at once.
 pub fn salvage<D: Device + Drop + Send, G: Gate + Sync, R: Threads + Wait + Sync>(
     rt: &R,
     alloc: Global,

@@ -45,8 +45,8 @@ pub(crate) fn list_but_for(
     Ok(list)
 }
 
-// A list of the same sectors.
-fn same_list(alloc: Global, bad: &BadSet) -> Result<BadSet, AllocError>
+/// A list of the same sectors.
+pub(crate) fn same_list(alloc: Global, bad: &BadSet) -> Result<BadSet, AllocError>
     ensures canonical { IfOk result IsCanonical }
     ensures same { IfOk result (λ list. (sector : ℕ) → IsBad list sector ↔ IsBad bad.now sector) }
 {
