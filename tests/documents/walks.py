@@ -18,9 +18,9 @@ PAGE = CRATES.parent / "docs" / "ARCHITECTURE.md"
 OPENING = """
 mdcli/main.rt: main
 md_cli/running.rt: run
-md_cli/arrays.rt: with_array
-md_cli/devices.rt: open_devices
-md_cli/performing_and_storing.rt: perform_and_store
+md_cli/open/arrays.rt: with_array
+md_cli/open/devices.rt: open_devices
+md_cli/lists/performing_and_storing.rt: perform_and_store store_and_perform
 md_cli/performing.rt: perform
 """
 WALKS = {

@@ -1,14 +1,13 @@
 -- What the copies of members lack, as their maps say, counts as part of the members' lists, in memory (this project's own).
-use Rattle.std.specs.Prelude.{◌≡◌, ◌≢◌, ◌⊎◌, ◌↔◌, ◌+◌, ◌<◌, ◌≤◌, ℕ, Bool, true, false, List, [], Option, Some, length, slice_get, unwrap_or}
-use Rattle.md_assembly.specs.declared.state.MemberState.{MemberState}
-use Rattle.md_assembly.specs.declared.state.MemberState.TheVariants.{InSync}
-use Rattle.md_badblocks.specs.Runs.{IsBad}
+use Rattle.std.specs.Prelude.{◌≡◌, ◌≢◌, ◌⊎◌, ◌↔◌, ◌+◌, ◌-◌, ◌/◌, ◌<◌, ◌≤◌, ℕ, Bool, true, false, List, [], Option, Some, length, slice_get, unwrap_or}
+use Rattle.md_badblocks.specs.Runs.{IsBad, entries_needed}
 use Rattle.md_badblocks.specs.declared.run.Run.{Run}
-use Rattle.md_kept_members.specs.Enrolling.{HasRoomFor}
-use Rattle.md_kept_members.specs.SectorLists.{IsListMore, in_runs}
+use Rattle.md_kept_members.specs.Enrolling.{log_room}
+use Rattle.md_kept_members.specs.SectorLists.{IsListMore, in_chunks, in_runs}
 use Rattle.md_kept_members.specs.View.{MemberView}
-use Rattle.md_state.specs.Members.{IsInSync, IsMember}
+use Rattle.md_state.specs.Members.{IsAlone, IsInSync, IsMember}
 use Rattle.md_state.specs.View.{ArrayView, Disk, MirrorView}
+use Rattle.md_super.specs.declared.superblock.Superblock.{Superblock}
 use Rattle.md_array.specs.Open.Opened.{IsOpenedFrom}
 use Rattle.md_array.specs.Open.Refusals.{RefusesOpen}
 use Rattle.md_array.specs.declared.fault.OpenFault.{OpenFault}
@@ -16,9 +15,9 @@ use Rattle.md_array.specs.declared.fault.OpenFault.TheVariants.{NoMemory}
 use Rattle.md_words.specs.Asks.{Ask, assembles, checks, details, loss_of, plans, reads, serves}
 use Rattle.md_words.specs.declared.loss.Loss.{Loss}
 use Rattle.md_words.specs.declared.loss.Loss.TheVariants.{Sectors}
-use Rattle.md_cli.specs.declared.holes.BeforeResync.{BeforeResync}
-use Rattle.md_cli.specs.declared.holes.BeforeResync.TheVariants.{All, Given, Nothing}
-use Rattle.md_cli.specs.declared.holes.Growth.{Growth}
+use Rattle.md_cli.specs.declared.lists.holes.BeforeResync.{BeforeResync}
+use Rattle.md_cli.specs.declared.lists.holes.BeforeResync.TheVariants.{All, Given, Nothing}
+use Rattle.md_cli.specs.declared.lists.holes.Growth.{Growth}
 
 -- ---- what a copy lacks
 -- What each image lacks by its map, in sectors of the image, in the order of the images. One without a map lacks nothing.
@@ -66,83 +65,98 @@ abbrev pub growth_of : Ask → Growth
 growth_of ask = record { must_fit = is_sectors (loss_of ask); before_resync = before_resync ask }
 
 -- ---- before a resync
--- A member in sync lists nothing, and its image lacks nothing: it gives all sectors.
-pub record GivesEachSector (lacking : Maps) (a : ArrayView) (k : ℕ) : Type 0 where
+-- Member j, which is in sync, gives a sector of the array: it doesn't list it, and its image doesn't lack it. That stays so where lists
+-- grow by what images lack, in whatever order.
+pub record GivesSector (lacking : Maps) (a : ArrayView) (s j : ℕ) : Type 0 where
   pub member : MemberView
-  pub in_sync : IsInSync a k member
-  pub whole : IsLacking lacking a k → ⊥
-  pub none : member.bad ≡ []
+  pub in_sync : IsInSync a j member
+  pub unlisted : IsBad member.bad (member.superblock.data_offset + s) → ⊥
+  pub there : IsBad (missing_at lacking j) (member.superblock.data_offset + s) → ⊥
 
-abbrev pub role_or_zero : MemberState → ℕ
-role_or_zero (InSync role) = role
-role_or_zero _ = 0
+-- some member in sync gives it
+abbrev pub IsGivenBySome : Maps → ArrayView → ℕ → Type 0
+IsGivenBySome lacking a s = (j : ℕ) × GivesSector lacking a s j
 
-pub record HasLowerRole (a : ArrayView) (j k : ℕ) : Type 0 where
-  pub member : MemberView
-  pub at : IsMember a j member
-  pub other : MemberView
-  pub at_other : IsMember a k other
-  pub lower : role_or_zero member.state < role_or_zero other.state
+-- A sector that an image lacks counts as listed though the array is to be resynced. A resync takes each sector of marked chunks from the
+-- first member that doesn't list it, and passes over those that all list, which would look like data from then on. So a sector of a
+-- marked chunk counts only where some member gives it: what nobody gives is read where it isn't, and the resync ends there. A lone
+-- member is not read.
+abbrev pub CountsBefore : BeforeResync → Maps → ArrayView → ℕ → Type 0
+CountsBefore All lacking a s = Unit {0}
+CountsBefore Nothing lacking a s = ⊥
+CountsBefore Given lacking a s =
+    (in_chunks a.chunks a.marks s ≡ false) ⊎ (IsGivenBySome lacking a s ⊎ IsAlone a)
 
--- Of those whose images lack something it is the first that a resync would copy from.
-abbrev pub IsFirstLacking : Maps → ArrayView → ℕ → Type 0
-IsFirstLacking lacking a k = (j : ℕ) → IsLacking lacking a j → HasLowerRole a j k → ⊥
+abbrev pub CountsAsListed : BeforeResync → Maps → ArrayView → ℕ → Type 0
+CountsAsListed which lacking a s = (a.resynced ≡ true) ⊎ CountsBefore which lacking a s
 
--- The list of member k may grow though the array is to be resynced. A resync clears the marks of what all members in sync list, and what
--- two of them listed in memory alone would look like data from then on: so all lists grow only beside a member that gives all sectors,
--- and else the first one alone.
-abbrev pub MayGrowBefore : BeforeResync → Maps → ArrayView → ℕ → Type 0
-MayGrowBefore All lacking a k = Unit {0}
-MayGrowBefore Nothing lacking a k = ⊥
-MayGrowBefore Given lacking a k = ((j : ℕ) × GivesEachSector lacking a j) ⊎ IsFirstLacking lacking a k
-
-abbrev pub MayNotGrowBefore : BeforeResync → Maps → ArrayView → ℕ → Type 0
-MayNotGrowBefore All lacking a k = ⊥
-MayNotGrowBefore Nothing lacking a k = Unit {0}
-MayNotGrowBefore Given lacking a k =
-    ((j : ℕ) → GivesEachSector lacking a j → ⊥) × ((j : ℕ) × IsLacking lacking a j × HasLowerRole a j k)
+-- these are the sectors of the array that the image of member k lacks, as far as they count
+abbrev pub AreCountedAsListed : BeforeResync → Maps → ArrayView → ℕ → MemberView → List Run → Type 0
+AreCountedAsListed which lacking a k m sectors =
+    (s : ℕ) → IsBad sectors s
+    ↔ ((s < a.chunks.size) × IsBad (missing_at lacking k) (m.superblock.data_offset + s)
+    × CountsAsListed which lacking a s)
 
 -- ---- each list
--- the member's log has room for its list with these sectors of the array
+-- How many entries of a member's log a list may take that grew by what its image lacks. An eighth of them is kept free for bad sectors
+-- that are found later: with no room for such a one a rebuild is refused, and a kernel drops the member.
+abbrev pub usable_room : Superblock → ℕ
+usable_room own = log_room own - log_room own / 8
+
+abbrev pub HasRoomToSpare : Superblock → List Run → Type 0
+HasRoomToSpare own list = entries_needed list ≤ usable_room own
+
+-- the member's log has room for its list with these sectors of the array, and some to spare
 abbrev pub FitsMore : MemberView → List Run → Type 0
-FitsMore m sectors = (list : List Run) × IsListMore (in_runs sectors) m list × HasRoomFor m.superblock list
+FitsMore m sectors =
+    (list : List Run) × IsListMore (in_runs sectors) m list × HasRoomToSpare m.superblock list
 
 abbrev pub OverfillsLog : MemberView → List Run → Type 0
 OverfillsLog m sectors =
-    (list : List Run) × IsListMore (in_runs sectors) m list × (HasRoomFor m.superblock list → ⊥)
+    (list : List Run) × IsListMore (in_runs sectors) m list × (HasRoomToSpare m.superblock list → ⊥)
 
--- The list of member k may grow by these sectors, in memory, whatever room its log has, where it need not fit.
-pub record MayGrow (how : Growth) (lacking : Maps) (a : ArrayView) (k : ℕ) (m : MemberView)
-    (sectors : List Run) : Type 0 where
-  pub agree : (a.resynced ≡ true) ⊎ MayGrowBefore how.before_resync lacking a k
-  pub room : how.must_fit ≡ true → FitsMore m sectors
-
-abbrev pub MayNotGrow : Growth → Maps → ArrayView → ℕ → MemberView → List Run → Type 0
-MayNotGrow how lacking a k m sectors =
-    (a.resynced ≡ false) × MayNotGrowBefore how.before_resync lacking a k
-    ⊎ (how.must_fit ≡ true) × OverfillsLog m sectors
-
--- The list of member k grows by what its image lacks, and nothing else of it changes.
+-- The list of member k grows by what its image lacks, as far as it counts, and nothing else of it changes. Where it need not fit its
+-- log, it grows whatever room that has.
 pub record ListGrows (how : Growth) (lacking : Maps) (a : ArrayView) (k : ℕ) (m n : MemberView) : Type 0 where
   pub lacks : IsLacking lacking a k
   pub sectors : List Run
-  pub are : AreHoles (missing_at lacking k) m.superblock.data_offset a.chunks.size sectors
-  pub may : MayGrow how lacking a k m sectors
+  pub are : AreCountedAsListed how.before_resync lacking a k m sectors
+  pub room : how.must_fit ≡ true → FitsMore m sectors
   pub list : List Run
   pub list_is : IsListMore (in_runs sectors) m list
   pub member : n ≡ record m { bad = list }
 
--- The list of member k may not grow by what its image lacks, and the member is as before.
+-- With these sectors the list would not fit its log, though it has to. Before a resync it grows by those of marked chunks alone, so that
+-- the resync takes them from other members.
+pub record ListGrowsMarked (how : Growth) (lacking : Maps) (a : ArrayView) (k : ℕ)
+    (m n : MemberView) : Type 0 where
+  pub lacks : IsLacking lacking a k
+  pub must_fit : how.must_fit ≡ true
+  pub unresynced : a.resynced ≡ false
+  pub all : List Run
+  pub are : AreCountedAsListed how.before_resync lacking a k m all
+  pub full : OverfillsLog m all
+  pub sectors : List Run
+  pub marked : (s : ℕ) → IsBad sectors s ↔ (IsBad all s × (in_chunks a.chunks a.marks s ≡ true))
+  pub list : List Run
+  pub list_is : IsListMore (in_runs sectors) m list
+  pub member : n ≡ record m { bad = list }
+
+-- The list would not fit its log, though it has to, and the array is resynced: the member is as before.
 pub record ListStays (how : Growth) (lacking : Maps) (a : ArrayView) (k : ℕ) (m n : MemberView) : Type 0 where
   pub lacks : IsLacking lacking a k
+  pub must_fit : how.must_fit ≡ true
+  pub resynced : a.resynced ≡ true
   pub sectors : List Run
-  pub are : AreHoles (missing_at lacking k) m.superblock.data_offset a.chunks.size sectors
-  pub may_not : MayNotGrow how lacking a k m sectors
+  pub are : AreCountedAsListed how.before_resync lacking a k m sectors
+  pub full : OverfillsLog m sectors
   pub member : n ≡ m
 
 abbrev pub IsRegarded : Growth → Maps → ArrayView → ℕ → MemberView → MemberView → Type 0
 IsRegarded how lacking a k m n =
-    ListGrows how lacking a k m n ⊎ (ListStays how lacking a k m n ⊎ ((IsLacking lacking a k → ⊥) × (n ≡ m)))
+    ListGrows how lacking a k m n
+    ⊎ (ListGrowsMarked how lacking a k m n
+    ⊎ (ListStays how lacking a k m n ⊎ ((IsLacking lacking a k → ⊥) × (n ≡ m))))
 
 -- The list of member k grows by what its image lacks, where it may, and nothing else changes.
 pub record RegardsOne (how : Growth) (lacking : Maps) (k : ℕ) (old new : MirrorView) : Type 0 where

@@ -16,6 +16,8 @@ pub mod InMemory
 pub mod Opened
 -- What copies lack counts as part of the lists of the members.
 pub mod Lacking
+-- The map of the member that is rebuilt.
+pub mod MapOfTarget
 -- What commands do with an opened array.
 pub mod Performing
 -- Why a command is refused, as a JSON object.

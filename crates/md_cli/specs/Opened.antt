@@ -4,7 +4,7 @@ use Rattle.std.specs.Prelude.{ℕ, ◌||◌, Bool, List, [], ◌∷◌, ◌++◌
 use Rattle.std.specs.List.{insert}
 use Rattle.md_state.specs.View.{Disk, MirrorView, disk_of}
 use Rattle.md_words.specs.Asks.{Ask, device_to_add, leaving_of}
-use Rattle.md_cli.specs.declared.opened.Opened.{Opened}
+use Rattle.md_cli.specs.declared.open.opened.Opened.{Opened}
 
 -- The array, and a device that is none of its members': before a command one that is to join, and after it one that did not, or
 -- that of a member which left.

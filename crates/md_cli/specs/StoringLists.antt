@@ -1,26 +1,30 @@
--- Lists that are longer in memory than in the logs are stored by a rebuild: before it begins, or where the array is to be resynced first,
--- at its end (this project's own).
-use Rattle.std.specs.Prelude.{◌≡◌, ◌⊎◌, ◌+◌, ◌<◌, ◌≤◌, ℕ, Bool, true, false, length, Result, Ok, MatchResult}
+-- Lists that are longer in memory than in the logs are stored by a rebuild before it copies anything, and after a resync where one is
+-- needed (this project's own).
+use Rattle.std.specs.Prelude.{◌≡◌, ◌⊎◌, ◌+◌, ◌<◌, ◌≤◌, ℕ, Bool, true, false, length}
+use Rattle.md_copy.specs.declared.beginning.fault.RebuildFault.{RebuildFault}
 use Rattle.md_copy.specs.declared.beginning.fault.RebuildFault.TheVariants as rebuilding
-use Rattle.md_kept_members.specs.Enrolling.{HasRoomFor}
 use Rattle.md_kept_members.specs.View.{MemberView}
 use Rattle.md_metadata.specs.StoringLists.{ListFails, StoresList}
+use Rattle.md_metadata.specs.Storing.{IsRecording, StoresAll, StoringFails}
 use Rattle.md_metadata.specs.declared.fault.PartFault.{PartFault}
-use Rattle.md_state.specs.Members.{IsInSync, IsMember}
+use Rattle.md_metadata.specs.declared.fault.PartFault.TheVariants as part
+use Rattle.md_resync.specs.declared.fault.ResyncFault.{ResyncFault}
+use Rattle.md_state.specs.Members.{IsInSync, IsMember, is_degraded}
 use Rattle.md_state.specs.Steps.WriteMember.{IsNotDue}
 use Rattle.md_state.specs.View.{ArrayView, MirrorView}
 use Rattle.md_commands.specs.declared.fault.CommandFault.{CommandFault}
-use Rattle.md_commands.specs.declared.fault.CommandFault.TheVariants.{Rebuild}
+use Rattle.md_commands.specs.declared.fault.CommandFault.TheVariants.{Rebuild, Resync}
+use Rattle.md_commands.specs.Resyncing.{RefusesNeededResync, ResyncsIfNeeded}
 use Rattle.md_words.specs.Asks.{Ask, rebuilds}
-use Rattle.md_cli.specs.Lacking.{IsLacking, Maps}
+use Rattle.md_cli.specs.Lacking.{HasRoomToSpare, IsLacking, Maps}
 use Rattle.md_cli.specs.Opened.{OpenedView}
 
--- The list of member k is stored: it is in sync, its image lacks some sector of the array, and its log has room for the list. The mirror
--- runs, and no superblock of a member in sync before it is due, as is so once the array is stopped.
+-- The list of member k is stored: it is in sync, its image lacks some sector of the array, and its log has room for the list, and some to
+-- spare. The mirror runs, and no superblock of a member in sync before it is due, as is so once the array is stopped.
 pub record MayStore (lacking : Maps) (a : ArrayView) (k : ℕ) : Type 0 where
   pub lacks : IsLacking lacking a k
   pub running : a.halted ≡ false
-  pub room : (m : MemberView) → IsMember a k m → HasRoomFor m.superblock m.bad
+  pub room : (m : MemberView) → IsMember a k m → HasRoomToSpare m.superblock m.bad
   pub earlier : (j : ℕ) (m : MemberView) → j < k → IsInSync a j m → IsNotDue m
 
 -- The list of member k is stored, where it may be.
@@ -52,7 +56,55 @@ abbrev pub stores_lists : Ask → Bool
 stores_lists (rebuilds k loss form) = true
 stores_lists _ = false
 
--- Where a command stores lists it does so first: the array is resynced, and no superblock of a member in sync is due.
+-- ---- before that
+-- The array is made ready for it: some role has no member in sync, so that a member may be rebuilt, and the image of some member in sync
+-- lacks a sector.
+pub record IsToReady (ask : Ask) (lacking : Maps) (a : ArrayView) : Type 0 where
+  pub stores : stores_lists ask ≡ true
+  pub degraded : is_degraded a ≡ true
+  pub some : (k : ℕ) × IsLacking lacking a k
+
+-- superblocks of members in sync that are due are stored, while the mirror runs
+abbrev pub StoresDue : MirrorView → MirrorView → Type 0
+StoresDue old new = (old.array.halted ≡ true) × (new ≡ old) ⊎ StoresAll IsRecording IsNotDue old new
+
+abbrev pub fault_of_part : PartFault → RebuildFault
+fault_of_part (part.MemberFailed k) = rebuilding.MetadataFault k
+fault_of_part part.Halted = rebuilding.Halted
+
+pub record FailsToStoreDue (old new : MirrorView) (fault : CommandFault) : Type 0 where
+  pub why : PartFault
+  pub is : fault ≡ Rebuild (fault_of_part why)
+  pub fails : StoringFails IsRecording old new why
+
+-- The array is resynced where it has to be, and then superblocks that are due are stored.
+pub record IsReadiedToStore (old new : MirrorView) : Type 0 where
+  pub mid : MirrorView
+  pub resynced : ResyncsIfNeeded old mid
+  pub stored : StoresDue mid new
+
+-- This is done where the array is to be made ready for it.
+abbrev pub ReadiesToStore : Ask → Maps → MirrorView → MirrorView → Type 0
+ReadiesToStore ask lacking old new =
+    IsToReady ask lacking old.array × IsReadiedToStore old new
+    ⊎ (IsToReady ask lacking old.array → ⊥) × (new ≡ old)
+
+-- the array is not resynced
+pub record FailsToResync (old new : MirrorView) (fault : CommandFault) : Type 0 where
+  pub why : ResyncFault
+  pub is : fault ≡ Resync why
+  pub refused : RefusesNeededResync old new why
+
+-- the array is resynced, and a superblock is not stored
+pub record FailsAfterResync (old new : MirrorView) (fault : CommandFault) : Type 0 where
+  pub mid : MirrorView
+  pub resynced : ResyncsIfNeeded old mid
+  pub fails : FailsToStoreDue mid new fault
+
+abbrev pub FailsToReady : MirrorView → MirrorView → CommandFault → Type 0
+FailsToReady old new fault = FailsToResync old new fault ⊎ FailsAfterResync old new fault
+
+-- Lists are stored then, before the command is done: the array is resynced, and no superblock of a member in sync is due.
 pub record StoresEarly (ask : Ask) (a : ArrayView) : Type 0 where
   pub stores : stores_lists ask ≡ true
   pub resynced : a.resynced ≡ true
@@ -69,10 +121,3 @@ pub record FailsToStoreAll (lacking : Maps) (before after : OpenedView) (fault :
   pub beside : after.beside ≡ before.beside
   pub as_many : length after.mirror.disks ≡ length before.mirror.disks
   pub fails : FailsFrom lacking fault 0 before.mirror after.mirror
-
--- Once a command is done that stores lists, these are stored; after any other nothing is.
-abbrev pub EndsWithLists : Bool → Maps → Result (Unit {0}) CommandFault → OpenedView → OpenedView
-    → Result (Unit {0}) CommandFault → Type 0
-EndsWithLists true lacking (Ok _) done after result =
-    MatchResult result (λ _. StoresEachList lacking done after) (FailsToStoreAll lacking done after)
-EndsWithLists stored lacking part done after result = (after ≡ done) × (result ≡ part)

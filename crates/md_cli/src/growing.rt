@@ -5,8 +5,7 @@ ghost use Rattle.md_messages.specs.Telling.{texts};
 ghost use Rattle.md_cli.specs.Arrays.{UsesImages, disks};
 ghost use Rattle.md_cli.specs.Growing.{GrowsArray, GrowsOn, chunk_asked, chunk_in_memory};
 
-use crate::create_options::bytes_of;
-use crate::show_devices::show_devices;
+use crate::create::{bytes_of, show_devices};
 use md_commands::{CommandFault, OptionFault};
 use md_device::Device;
 use md_examine::Sink;

@@ -17,7 +17,7 @@ ghost use Rattle.md_cli.specs.Opened.{opened_view};
 ghost use Rattle.md_cli.specs.Performing.{Performs, PerformsAdd, PerformsCheck, PerformsReAdd, PerformsReadOn, PerformsRemove, PerformsServe, ReadsFilledOn, ShowsMismatches, ShowsSectors, detail_shown, rebuild_extent, rebuilt_told, salvaged_told, sectors_asked};
 ghost use Rattle.md_cli.specs.Streams.{streams_of};
 
-use crate::opened::Opened;
+use crate::open::Opened;
 use crate::read_watch::ReadWatch;
 use crate::reading_on::{end_output, rest_from, with_earlier};
 use crate::session::Session;

@@ -7,10 +7,9 @@ ghost use Rattle.md_messages.specs.Telling.{PutsTold, TellsNoticed, TellsRefusal
 ghost use Rattle.md_cli.specs.Running.{Obeys, MakesArray, RunsRefused, RunsScan, RunsTaken, differs, status_of};
 ghost use Rattle.md_cli.specs.Streams.{told_of};
 
-use crate::arrays::with_array;
-use crate::create_options::params_of;
-use crate::creating::create_images;
+use crate::create::{create_images, params_of};
 use crate::growing::grow_array;
+use crate::open::with_array;
 use crate::read_watch::ReadWatch;
 use crate::refusing::show_if_refused;
 use crate::scanning::{ScanOptions, scan};

@@ -2,7 +2,8 @@
 // between them.
 use thiserror::Error;
 
-/// Why an image does not count as the device that `--data-of` says, in the order in which it is looked for.
+/// Why an image does not count as the device that `--data-of` says. The image is looked at part by part, so that some faults come at
+/// more than one place: docs/FORMATS.md has the order.
 #[derive(Clone, Copy, Debug, PartialEq, Eq, Error)]
 pub enum DataOfFault {
     /// The value is not `IMAGE=NUMBER`, where the image is one of those that are listed.

@@ -2,7 +2,8 @@
 use crate::data_of_fault::DataOfFault;
 use thiserror::Error;
 
-/// Why a command refuses its options, in the order in which it is looked for: before any image is touched, but for `--data-of`.
+/// Why a command refuses its options: before any image is touched, but for `--data-of` and `MapOfTarget`. The order in which it is
+/// looked for is each command's own, and stands in docs/FORMATS.md.
 #[derive(Clone, Copy, Debug, PartialEq, Eq, Error)]
 pub enum OptionFault {
     /// The level is not RAID 1: `1`, `raid1` or `mirror`.
@@ -26,6 +27,10 @@ pub enum OptionFault {
     /// The size in sectors doesn't fit 64 bits.
     #[error("BadSize")]
     BadSize,
+    /// The member that is rebuilt is recovering, and its image lacks a sector of the array by its map: part of it counts as copied, and
+    /// would come into sync as it stands. It comes after the opening.
+    #[error("MapOfTarget")]
+    MapOfTarget,
     /// The image of `--data-of` does not count as the device that it says.
     #[error("{0}")]
     DataOf(DataOfFault),

@@ -16,3 +16,5 @@ pub mod Terminal
 pub mod GoingOn
 -- What is said of sectors for which zeros were put out.
 pub mod Missing
+-- What is said of sectors to which a command writes and that can't be read.
+pub mod Unreadable

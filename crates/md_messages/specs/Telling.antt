@@ -31,6 +31,7 @@ use Rattle.md_read_commands.specs.declared.gaps.Gaps.{Gaps}
 use Rattle.md_messages.specs.Missing.{gap_lines}
 use Rattle.md_messages.specs.Noticed.{asks_first, was_parted}
 use Rattle.md_messages.specs.RefusedLines.{failed_text, perhaps_listed_text}
+use Rattle.md_messages.specs.Unreadable.{unreadable_lines}
 
 -- the texts of words
 abbrev pub texts : List (Bor Text) → List Text
@@ -239,7 +240,8 @@ lost_lines audience ask = []
 unfoldable pub told_text : Audience → Ask → List Text → Notices → List ℕ
 told_text audience ask names n =
     noticed_text audience ask names n ++ dropped_lines names n ++ listed_lines ask names n
-    ++ loss_lines ask names n ++ uncompared_lines ask names n ++ lost_lines audience ask
+    ++ loss_lines ask names n ++ uncompared_lines ask names n ++ unreadable_lines ask n
+    ++ lost_lines audience ask
 
 -- ---- What is said of a command that is refused.
 -- the line of a member of which a write failed

@@ -2,7 +2,7 @@
 //!
 //! Start with `Notices` (`src/notices.rt`): what is noticed of an array as it is opened, and as a command leaves it.
 //! `put_told` and `put_refused` (`src/telling.rt`) put its lines out after a command, of which some speak of a refused one alone
-//! (`src/refused_lines.rt`), and `ask_first` (`src/question.rt`)
+//! (`src/refused_lines.rt`) and some of one that writes (`src/unreadable.rt`), and `ask_first` (`src/question.rt`)
 //! asks with some of them before it. `specs/Telling.antt` says which lines there are, in which order, and
 //! `specs/Question.antt` what an answer allows. What is shown and asked at a terminal, and that only a yes is a yes, is
 //! `Questions` (`src/terminal.rt`). The rules by which a member gets a line, and the text of each line, are those of
@@ -31,6 +31,7 @@ mod question;
 mod refused_lines;
 mod telling;
 mod terminal;
+mod unreadable;
 
 pub use advice::{advice_words, advise};
 pub use asker::Asker;

@@ -10,6 +10,7 @@ ghost use Rattle.md_messages.specs.Noticed.{asks_first};
 use crate::messages::Audience;
 use crate::notices::Notices;
 use crate::refused_lines::{put_all_failed, put_perhaps_listed};
+use crate::unreadable::put_unreadable;
 use md_assembly::MemberState;
 use md_commands::CommandFault;
 use md_examine::{Sink, SinkFault};
@@ -594,6 +595,7 @@ pub fn put_told<S: Sink>(
     put_all_listed(out, notices, command, names)?;
     put_loss(out, command, notices, names)?;
     put_uncompared(out, notices, command, names)?;
+    put_unreadable(out, command, notices)?;
     put_lost(out, command, audience)?;
     Ok(())
 }

@@ -72,4 +72,5 @@ option_text option.BadCount = codes "BadCount"
 option_text option.BadBitmap = codes "BadBitmap"
 option_text option.BadChunk = codes "BadChunk"
 option_text option.BadSize = codes "BadSize"
+option_text option.MapOfTarget = codes "MapOfTarget"
 option_text (option.DataOf why) = data_of_text why

@@ -50,6 +50,7 @@ fn culprit_of(fault: &CommandFault) -> Option<Culprit> {
         CommandFault::Add(AddFault::WriteFault) => Some(Culprit::Named),
         CommandFault::ReAdd(fault) => culprit_of_re_add(*fault),
         CommandFault::Rebuild(fault) => culprit_of_rebuild(*fault),
+        CommandFault::Options(OptionFault::MapOfTarget) => Some(Culprit::Named),
         _ => None,
     }
 }

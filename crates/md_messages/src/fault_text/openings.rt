@@ -112,6 +112,7 @@ pub(crate) fn put_option<S: Sink>(out: &mut S, fault: OptionFault) -> Result<(),
         OptionFault::BadBitmap => out.put(b"BadBitmap"),
         OptionFault::BadChunk => out.put(b"BadChunk"),
         OptionFault::BadSize => out.put(b"BadSize"),
+        OptionFault::MapOfTarget => out.put(b"MapOfTarget"),
         OptionFault::DataOf(fault) => put_data_of(out, fault),
     }
 }

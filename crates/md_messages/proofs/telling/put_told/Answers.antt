@@ -8,4 +8,5 @@ returns g c =
     let dropped = puts_then g.S.Sink.contents g.S.Sink.failed c.in_ok-put_noticed.ensures c.in_ok-put_all_dropped.ensures in
     let listed = puts_then g.S.Sink.contents g.S.Sink.failed dropped c.in_ok-put_all_listed.ensures in
     let lost = puts_then g.S.Sink.contents g.S.Sink.failed listed c.in_ok-put_loss.ensures in
-    puts_then g.S.Sink.contents g.S.Sink.failed (puts_then g.S.Sink.contents g.S.Sink.failed lost c.in_ok-put_uncompared.ensures) c.in_ok-put_lost.ensures
+    let compared = puts_then g.S.Sink.contents g.S.Sink.failed lost c.in_ok-put_uncompared.ensures in
+    puts_then g.S.Sink.contents g.S.Sink.failed (puts_then g.S.Sink.contents g.S.Sink.failed compared c.in_ok-put_unreadable.ensures) c.in_ok-put_lost.ensures
