@@ -984,8 +984,8 @@ CASES = [
             Made("b", "b", lambda image: members.with_data(image, 8, DATA)),
             marked_alone("a", 1),
             marked_alone("b", 1),
-            Step("resync --map a=early --map b=early a b", fault="ReadFault 1 1"),
-            Step("resync --verbose --map a=early --map b=early a b", fault="ReadFault 1 1", told=COPY % "b"),
+            Step("resync --map a=early --map b=early a b", fault="ReadFault 0 1"),
+            Step("resync --verbose --map a=early --map b=early a b", fault="ReadFault 0 1", told=COPY % "a"),
             # Without memory for the runs that are left the write fails: what it wrote is not given.
             Step("resync --map b=four a b", "in sync 2 of 2, events 2, marked 0\n", changes="a b"),
             Step("check a b", AGREE),

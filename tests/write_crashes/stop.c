@@ -9,9 +9,10 @@
        short   it writes the first half of its sectors and says so
 
    Of the reads of images the one whose number stands in FAILED_READ fails, and so does each that meets the bytes of the image
-   FAILED_IMAGE from FAILED_FROM up to FAILED_TO. Each of them first waits for READ_WAIT microseconds. Each of these calls is a
-   line of the file that CALLS_LOG names, where CALLS_BYTES is set followed by the bytes of a write. No disk is waited for: what
-   a process wrote is there once it has ended. */
+   FAILED_IMAGE from FAILED_FROM up to FAILED_TO, or those of a line of the file FAILED_PLACES, which has both numbers and the
+   image. Each of them first waits for READ_WAIT microseconds. Each of these calls is a line of the file that CALLS_LOG names,
+   where CALLS_BYTES is set followed by the bytes of a write. No disk is waited for: what a process wrote is there once it has
+   ended. */
 #define _GNU_SOURCE
 #include <errno.h>
 #include <fcntl.h>
@@ -208,11 +209,33 @@ int fsync(int fd)
     return sync_of(fd, SYS_fsync);
 }
 
-/* Whether these bytes of an image can't be read. */
+static int meets(off_t place, size_t size, long from, long to)
+{
+    return place < to && from < place + (off_t)size;
+}
+
+/* Whether these bytes of an image can't be read, as a line of FAILED_PLACES says. */
+static int is_in_places(const char *image, off_t place, size_t size)
+{
+    const char *path = getenv("FAILED_PLACES");
+    FILE *places = path ? fopen(path, "r") : NULL;
+    char named[4096];
+    long from, to;
+    int found = 0;
+    if (!places)
+        return 0;
+    while (!found && fscanf(places, "%ld %ld %4095[^\n]", &from, &to, named) == 3)
+        found = !strcmp(named, image) && meets(place, size, from, to);
+    fclose(places);
+    return found;
+}
+
 static int is_bad(const char *image, off_t place, size_t size)
 {
     const char *bad = getenv("FAILED_IMAGE");
-    return bad && !strcmp(bad, image) && place < number_in("FAILED_TO") && number_in("FAILED_FROM") < place + (off_t)size;
+    if (bad && !strcmp(bad, image) && meets(place, size, number_in("FAILED_FROM"), number_in("FAILED_TO")))
+        return 1;
+    return is_in_places(image, place, size);
 }
 
 static ssize_t read_at(int fd, void *bytes, size_t size, off_t place)
