@@ -1513,7 +1513,7 @@ rebuilt member 1, passes 1, orphans 1
                 told="mdcli: b: no member gave all of it: the sectors that are listed as bad in it, also good ones of the same chunks, are now 8\n"
                 "mdcli: sectors of the array that no member in sync gives: 1, the first is 9\n"
                 "mdcli: `rebuild --salvage` would have listed only the sectors that no member gave, and not their whole chunks, as long as the logs had room\n"
-                "mdcli: a: its log does not list all that its map lacks: later commands need the map, too\n",
+                "mdcli: a: its log does not list all that its map lacks: later commands need the map, too; leave it out of `write`, `serve`, `re-add` and a kernel's array, which take none\n",
                 changes="a b",
             ),
             Step("fail --verbose --member 1 a b", "in sync 1 of 2, events 14, marked 0\n", changes="a"),

@@ -22,7 +22,7 @@ NO_MEMORY = "mdcli: NoMemory\n"
 # Of an image for whose look there was no memory.
 UNSEEN = ": there was no memory to look at it: it may hold data"
 # Of a map it is said where nobody could look whether its image's log lists all of it.
-UNLISTED = ": its log does not list all that its map lacks: later commands need the map, too"
+UNLISTED = ": its log does not list all that its map lacks: later commands need the map, too; leave it out of `write`, `serve`, `re-add` and a kernel's array, which take none"
 UNNAMED = " is not among the images"
 
 

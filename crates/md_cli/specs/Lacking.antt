@@ -12,7 +12,7 @@ use Rattle.md_array.specs.Open.Opened.{IsOpenedFrom}
 use Rattle.md_array.specs.Open.Refusals.{RefusesOpen}
 use Rattle.md_array.specs.declared.fault.OpenFault.{OpenFault}
 use Rattle.md_array.specs.declared.fault.OpenFault.TheVariants.{NoMemory}
-use Rattle.md_words.specs.Asks.{Ask, assembles, checks, details, loss_of, plans, reads, serves}
+use Rattle.md_words.specs.Asks.{Ask, assembles, checks, details, loss_of, plans, reads, rebuilds, serves}
 use Rattle.md_words.specs.declared.loss.Loss.{Loss}
 use Rattle.md_words.specs.declared.loss.Loss.TheVariants.{Sectors}
 use Rattle.md_cli.specs.declared.lists.holes.BeforeResync.{BeforeResync}
@@ -48,9 +48,12 @@ abbrev pub is_sectors : Option Loss → Bool
 is_sectors (Some Sectors) = true
 is_sectors _ = false
 
--- Of an array that is to be resynced: commands that never resync it may leave all out that images lack. A read by which no image may
--- be changed says which sectors another member gives than a resync would take them from, so that there no list grows.
+-- Of an array that is to be resynced: commands that never resync it may leave all out that images lack. So may a rebuild in which
+-- sectors are lost. The marks of a degraded array stay, and what nobody gives is on the lists of all members in sync before there is
+-- another of these. A read by which no image may be changed says which sectors another member gives than a resync would take them from,
+-- so that there no list grows.
 abbrev pub before_resync : Ask → BeforeResync
+before_resync (rebuilds k Sectors form) = All
 before_resync (assembles json readonly) = All
 before_resync (details form readonly) = All
 before_resync (plans k json readonly) = All

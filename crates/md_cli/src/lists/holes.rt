@@ -21,7 +21,7 @@ use std::alloc::{AllocError, Global};
 /// Which lists grow by what images lack where the array is to be resynced.
 #[derive(Clone, Copy, Debug, PartialEq, Eq)]
 pub(crate) enum BeforeResync {
-    /// All of them: there is no resync.
+    /// All of them: there is no resync, or what nobody gives is listed by all before a member comes into sync.
     All,
     /// All, but in marked chunks only by sectors that some member gives.
     Given,
@@ -38,7 +38,8 @@ pub(crate) struct Growth {
 
 /// Opens devices as a mirror. What the images lack, each by its map, counts then as part of the lists of the members in
 /// sync, in memory alone: so a plan, a check and a copy leave it out. Where a resync is to come, what no member gives of marked chunks
-/// does not count; where sectors are listed on all members at the end, each list has to fit its log, with room to spare.
+/// does not count; but where sectors are listed on all members at the end it does, and each list has to fit its log, with room to
+/// spare.
 pub(crate) fn open_lacking<D: Device + Drop>(
     alloc: Global,
     command: ArrayCommand<'_>,
@@ -87,6 +88,10 @@ fn before_resync(command: ArrayCommand<'_>) -> BeforeResync
         ArrayCommand::Detail { .. } => BeforeResync::All,
         ArrayCommand::Plan { .. } => BeforeResync::All,
         ArrayCommand::Check { .. } => BeforeResync::All,
+        ArrayCommand::Rebuild {
+            loss: Loss::Sectors,
+            ..
+        } => BeforeResync::All,
         ArrayCommand::Read { readonly: true, .. } => BeforeResync::Nothing,
         ArrayCommand::Serve { .. } => BeforeResync::Nothing,
         _ => BeforeResync::Given,

@@ -84,7 +84,8 @@ fn tell<E: Write>(name: &str, err: &mut E) -> Option<()> {
     put_name(&mut Output::new(&mut *err), name).ok()?;
     writeln!(
         err,
-        ": its log does not list all that its map lacks: later commands need the map, too"
+        ": its log does not list all that its map lacks: later commands need the map, too; \
+         leave it out of `write`, `serve`, `re-add` and a kernel's array, which take none"
     )
     .ok()
 }
