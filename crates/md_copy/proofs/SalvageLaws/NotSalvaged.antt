@@ -441,7 +441,7 @@ module _ (target : ℕ) where
           ]
 
           wide : (fits.gap ≡ 510) × (fits.to ≡ 2 ^ 54)
-          wide = elim fits.fits [ inl widest ↦ widest | inr just ↦ absurd (no_room just.room) ]
+          wide = elim fits.fits [ inl widest ↦ (widest.0, widest.1) | inr just ↦ absurd (no_room just.room) ]
 
           fewest_then : TakesFewest 510 (2 ^ 54) old.array.chunks missing lost listed
           fewest_then =

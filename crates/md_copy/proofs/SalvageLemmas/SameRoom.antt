@@ -83,7 +83,7 @@ fits_before target missing lost a b listed h fits = record {
   fewest = subst (λ (q : Chunks). TakesFewest fits.gap fits.to q missing lost listed) h.chunks fits.fewest;
   least = λ less low. lacks_before less (2 ^ 54) target missing lost a b h (fits.least less low);
   fits = elim fits.fits [
-    | inl widest ↦ inl widest
+    | inl widest ↦ inl (widest.0, widest.1, lacks_before 510 (2 ^ 54) target missing lost a b h widest.2)
     | inr just ↦
         inr (record {
           room = room_then target missing b a listed (same_before a b h) just.room;

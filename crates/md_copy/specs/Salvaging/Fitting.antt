@@ -76,4 +76,4 @@ pub record IsFitting (target : ℕ) (missing : Bitmap) (lost : List Run) (a : Ar
   pub widest : gap ≤ 510
   pub fewest : TakesFewest gap to a.chunks missing lost listed
   pub least : (less : ℕ) → less < gap → LacksRoomWith less (2 ^ 54) target missing lost a
-  pub fits : ((gap ≡ 510) × (to ≡ 2 ^ 54)) ⊎ IsJustRoom gap to target missing lost a listed
+  pub fits : ((gap ≡ 510) × (to ≡ 2 ^ 54) × LacksRoomWith 510 (2 ^ 54) target missing lost a) ⊎ IsJustRoom gap to target missing lost a listed

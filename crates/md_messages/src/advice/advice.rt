@@ -268,7 +268,7 @@ fn option_advice(fault: OptionFault) -> &'static str {
         OptionFault::BadChunk => "choose a smaller chunk, below 4,194,304 KiB",
         OptionFault::BadSize => "choose a smaller size",
         OptionFault::MapOfTarget => {
-            "`fail` and `remove` that member, and `add` it anew, so that all of it is copied: then no map of it is needed"
+            "where the rebuild that goes on began with that map, leave it out; else `fail` and `remove` that member, and `add` it anew, so that all of it is copied: then no map of it is needed"
         }
         OptionFault::DataOf(fault) => data_of_advice(fault),
     }

@@ -54,5 +54,5 @@ returns g c =
       widest = omega arith;
       fewest = subst (λ (x : Chunks). TakesFewest 510 (2 ^ 54) x missing lost listed) c.chunks-2.ensures fewest;
       least = λ less low. c.loop-gap.invariant.small less (omega (arith, low, past));
-      fits = inl (refl, refl);
+      fits = inl (refl, refl, c.loop-gap.invariant.small 510 (omega (arith, past)));
     }) c.widen_lost-2.ensures
