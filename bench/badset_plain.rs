@@ -1,4 +1,4 @@
-// A sorted Vec of runs, to which the same runs are added as by crates/bench_parts: each add finds its place by
+// A sorted Vec of runs, to which the same runs are added as by bench/parts: each add finds its place by
 // bisection, and puts one run in the place of those that it touches. It prints what it holds, and the time to standard
 // error.
 use std::hint::black_box;

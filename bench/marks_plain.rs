@@ -1,5 +1,5 @@
 // A plain pass over as many bytes as the largest bitmap has: the ones of each word are added up, and for the walk the
-// words that are not 0. It prints what it found, and the times to standard error, as crates/bench_parts does.
+// words that are not 0. It prints what it found, and the times to standard error, as bench/parts does.
 use std::hint::black_box;
 use std::time::Instant;
 

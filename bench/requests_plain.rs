@@ -1,6 +1,6 @@
 // A Vec of requests in flight that is searched by number, as crates/md_inflight was at first. Requests are entered and
 // removed, in the order of entry and in reverse, and the Vec lives through all rounds. It prints what is left and a sum that tells the order, and the times to
-// standard error, as crates/bench_parts does.
+// standard error, as bench/parts does.
 use std::collections::VecDeque;
 use std::hint::black_box;
 use std::time::Instant;

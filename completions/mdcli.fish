@@ -41,7 +41,7 @@ complete -c mdcli -n '__fish_seen_subcommand_from create' -l size -x -d "The siz
 complete -c mdcli -n '__fish_seen_subcommand_from create' -l time -x -d "The time that the array is created at, since 1970"
 complete -c mdcli -n '__fish_seen_subcommand_from create' -l write-mostly -x -d "The role of a member that is read only where no other can serve"
 complete -c mdcli -n '__fish_seen_subcommand_from create' -l assume-clean -d "Takes the members for equal, so that nothing is to be copied"
-complete -c mdcli -n '__fish_seen_subcommand_from create add re-add rebuild' -l run -d "Asks nothing at a terminal, and goes on"
+complete -c mdcli -n '__fish_seen_subcommand_from create grow serve write resync stop fail remove add re-add rebuild' -l run -d "Asks nothing, and goes on"
 complete -c mdcli -n '__fish_seen_subcommand_from grow' -l bitmap -x -a 'internal' -d "The bitmap that the members get: one on each of them"
 complete -c mdcli -n '__fish_seen_subcommand_from assemble detail plan read check resync rebuild' -l map -x -d "The image is a copy of a disk, and FILE ddrescue's map of it: what it lacks is not read; of each image one"
 complete -c mdcli -n '__fish_seen_subcommand_from assemble detail plan read serve check' -l bitmap -x -a 'internal' -d "With --readonly: reads an array without a bitmap as if `grow` had given it one, in memory alone"

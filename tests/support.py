@@ -2,11 +2,14 @@
 
 import fcntl
 import os
+import pty
+import re
 import shutil
 import signal
 import subprocess
 import sys
 import termios
+import threading
 from pathlib import Path
 
 TOP = Path(__file__).resolve().parent.parent
@@ -37,6 +40,60 @@ def leave_terminal():
 
 
 leave_terminal()
+
+QUESTION = "mdcli: go on? (yes or no) "
+SECONDS = 60
+# What a terminal gets once a program at it has ended.
+ENDED = b"\0ended"
+
+# The commands that may ask before they go on, and are refused if nobody can be asked.
+ASKING = ("create", "grow", "write", "serve", "resync", "stop", "fail", "remove", "add", "re-add", "rebuild")
+
+
+def unasked(words):
+    """The words of a command, with --run if it may ask: then it goes on, as after a yes."""
+    words = [word if isinstance(word, bytes) else str(word) for word in words]
+    return words[:1] + ["--run"] + words[1:] if words and words[0] in ASKING and "--run" not in words else words
+
+
+STRAY = re.compile(r"mdcli: .*: the copy has data in sector \d+, which it lacks by this map: perhaps the map is another copy's\n")
+
+
+def but_stray(errors):
+    """What standard error says, without the line about a copy that has data which it lacks according to its map. Copies in these tests
+    have such data, to show whether they are read; tests/maps tests the line."""
+    return STRAY.sub("", errors)
+
+
+def at_terminal(folder, answer, *words, stdin=None):
+    """The status of a run at a terminal, which is given this answer, and what it shows there but the answer. What a terminal has not
+    passed on yet may be lost if its other end is closed: so that stays open, and gets a mark once the program has ended."""
+    ours, theirs = pty.openpty()
+    process = subprocess.Popen(
+        [str(PROGRAM)] + list(words), cwd=str(folder), stdin=theirs if stdin is None else stdin, stdout=subprocess.DEVNULL, stderr=theirs
+    )
+
+    def mark():
+        try:
+            process.wait(timeout=SECONDS)
+        except subprocess.TimeoutExpired:
+            process.kill()
+        os.write(theirs, ENDED)
+
+    marker = threading.Thread(target=mark)
+    marker.start()
+    shown, answered = b"", False
+    while not shown.endswith(ENDED):
+        shown += os.read(ours, 65536)
+        if not answered and shown.endswith(QUESTION.encode()):
+            # A question that is not expected is not waited for.
+            os.write(ours, answer or b"\x04")
+            answered = True
+    marker.join()
+    os.close(ours)
+    os.close(theirs)
+    # The terminal shows the answer too.
+    return process.wait(timeout=SECONDS), shown[: -len(ENDED)].decode("utf-8", "backslashreplace").replace("\r\n", "\n")
 
 
 class Tally:

@@ -393,7 +393,7 @@ TAKEN = "mdcli: sector %d of the array may be older or newer: it is another memb
 UNNAMED = "mdcli: device %d in role %d is not among the images\n"
 # Of what an image that is added holds.
 STANDING = "mdcli: %s: is device %d%s of array " + SET + ", %s there\n"
-FORGOTTEN = "mdcli: %s: is in sync in this very array, and is not among the images\n"
+FORGOTTEN = "mdcli: %s: is in sync in this very array, and is not among the images: its data may be newer than theirs\n"
 EXT = "mdcli: %s: holds an ext2, ext3 or ext4 file system\n"
 XFS = "mdcli: %s: holds an XFS file system\n"
 PARTED = "mdcli: %s: was used without %s since they parted: what was written to it alone is not in this array\n"
@@ -406,6 +406,12 @@ CHUNKS_LISTED = (
     "mdcli: `rebuild --salvage` would have listed only the sectors that no member gave, and not their whole chunks,"
     " as long as the logs had room\n"
 )
+# Why an array is not ready for a kernel.
+UNREADY = "mdcli: not ready for a kernel: run mdcli %s\n"
+MAY_DIFFER = UNREADY % "resync first: members in sync may differ, and it would rebuild another one before"
+TOLD_BY_ONE = UNREADY % "rebuild first: no other superblock tells of the recovering member's role yet"
+SAYS_MARKED = UNREADY % "rebuild first: it takes marked chunks before a recovery offset for copied"
+LEFT_OUT = UNREADY % "add first, of the faulty member: one from before 2024 takes it for recovering still"
 # With --verbose: what to do with an image that can't be read in a place.
 COPY = "%s: copy the disk by ddrescue, and use the copy with its map (`--map`), without which zeros would count as data; or leave the image out\n"
 
@@ -582,10 +588,10 @@ OBJECTS_AROUND = ",".join(
     for k, name in enumerate("ab")
 )
 OBJECT_OF_SPARE = ',{"image":"c","index":2,"device_number":3,"role":null,"state":"spare","write_mostly":false}'
-MADE_OBJECT = '{"report":"create","in_sync":2,"raid_devices":3,"events":1,"marked_chunks":0,"members":[%s]}\n' % OBJECTS_AROUND
-ADDED_OBJECT = '{"report":"add","in_sync":2,"raid_devices":3,"events":2,"marked_chunks":0,"members":[%s]}\n' % (OBJECTS_AROUND + OBJECT_OF_SPARE)
-RE_ADDED_OBJECT = '{"report":"re-add","in_sync":2,"raid_devices":2,"events":4,"marked_chunks":0,"members":[%s]}\n' % OBJECTS_OF_TWO
-SHORT_OBJECT = '{"report":"assemble","in_sync":2,"raid_devices":2,"events":1,"marked_chunks":0,"members":[%s]}\n' % OBJECTS_OF_TWO
+MADE_OBJECT = '{"report":"create","in_sync":2,"raid_devices":3,"events":1,"marked_chunks":0,"members":[%s],"run_before_kernel":null}\n' % OBJECTS_AROUND
+ADDED_OBJECT = '{"report":"add","in_sync":2,"raid_devices":3,"events":2,"marked_chunks":0,"members":[%s],"run_before_kernel":null}\n' % (OBJECTS_AROUND + OBJECT_OF_SPARE)
+RE_ADDED_OBJECT = '{"report":"re-add","in_sync":2,"raid_devices":2,"events":4,"marked_chunks":0,"members":[%s],"run_before_kernel":null}\n' % OBJECTS_OF_TWO
+SHORT_OBJECT = '{"report":"assemble","in_sync":2,"raid_devices":2,"events":1,"marked_chunks":0,"members":[%s],"run_before_kernel":null}\n' % OBJECTS_OF_TWO
 EQUAL = '{"report":"check","mismatched_chunks":0,"mismatches":[],"members":[%s],"compared_members":[0,1],"bad_sectors":[[],[]]}\n' % OBJECTS_OF_TWO
 CHECKED = '{"report":"check","mismatched_chunks":1,"mismatches":[{"sector":8,"sectors":8,"pairs":[[0,1]]}],"members":[%s],"compared_members":[0,1],"bad_sectors":[[],[]]}\n' % OBJECTS_OF_TWO
 
@@ -625,7 +631,7 @@ LIFE_TOGETHER = [
 ]
 
 # A new member comes in beside the example member.
-NEW_BESIDE_VAULT = Step("add --device b a", "in sync 1 of 2, events 11, marked 1\n", told=UNNAMED % (1, 1), changes="a b")
+NEW_BESIDE_VAULT = Step("add --run --device b a", "in sync 1 of 2, events 11, marked 1\n", told=UNNAMED % (1, 1), changes="a b")
 
 # Two members of three that agree, and a spare.
 WITH_A_SPARE = [
@@ -658,8 +664,9 @@ CASES = [
             Step("detail a", fault="Assemble NoBitmap 0"),
             Step("grow --bitmap external a", fault="BadBitmap"),
             Step("grow --bitmap internal --bitmap-chunk 3 a", fault="BadChunk"),
-            Step("grow --bitmap internal a", "in sync 1 of 2, events 11, marked 0\n", changes="a"),
-            Step("grow --bitmap internal a", fault="HasBitmap"),
+            Step("grow --bitmap internal a", fault="NotAll 1"),
+            Step("grow --run --bitmap internal a", "in sync 1 of 2, events 11, marked 0\n", told=UNNAMED % (1, 1), changes="a"),
+            Step("grow --run --bitmap internal a", fault="HasBitmap"),
         ],
     ),
     (
@@ -669,7 +676,7 @@ CASES = [
             Step("assemble --readonly a", fault="Assemble NoBitmap 0"),
             Step("assemble --readonly --bitmap external a", fault="BadBitmap"),
             Step("assemble --readonly --bitmap internal a", "in sync 1 of 2, events 11, marked 0\n", told=UNNAMED % (1, 1)),
-            Step("grow --bitmap internal a", "in sync 1 of 2, events 11, marked 0\n", changes="a"),
+            Step("grow --run --bitmap internal a", "in sync 1 of 2, events 11, marked 0\n", told=UNNAMED % (1, 1), changes="a"),
             Step("assemble --readonly --bitmap internal a", "in sync 1 of 2, events 11, marked 0\n", told=UNNAMED % (1, 1)),
         ],
     ),
@@ -678,7 +685,7 @@ CASES = [
         {"a": members.with_superblock(WITHOUT_BITMAP, resync_offset=0), "b": members.with_superblock(OTHER, feature_map=0, resync_offset=0, events=8)},
         [
             Step("grow --bitmap internal a b", fault="NotInSync 1"),
-            Step("grow --bitmap internal --bitmap-chunk 4 a", "in sync 1 of 2, events 11, marked 8\n", changes="a"),
+            Step("grow --run --bitmap internal --bitmap-chunk 4 a", "in sync 1 of 2, events 11, marked 8\n", told=UNNAMED % (1, 1), changes="a"),
         ],
     ),
     ("examine-badblocks, no log", {"a": LOGGED}, [Step("examine-badblocks a", "no bad blocks\n")]),
@@ -779,7 +786,7 @@ CASES = [
                 "raid1",
                 5,
                 4,
-                "--assume-clean a missing b c d",
+                "--run --assume-clean a missing b c d",
                 output="in sync 4 of 5, events 1, marked 0\n",
                 told=EXT % "a" + XFS % "b" + STANDING % ("c", 0, " in role 0", "in sync"),
                 changes="a b c d",
@@ -828,7 +835,7 @@ CASES = [
     (
         "a bitmap that is out of date is marked by an addition too",
         {"a": OUT_OF_DATE, "b": ZEROS},
-        [Step("add --device b a", "in sync 1 of 2, events 11, marked 8\n", told=STORED + UNNAMED % (1, 1), changes="a b")],
+        [Step("add --run --device b a", "in sync 1 of 2, events 11, marked 8\n", told=STORED + UNNAMED % (1, 1), changes="a b")],
     ),
     (
         "a bitmap that is out of date is marked by each command that changes who is a member",
@@ -838,7 +845,7 @@ CASES = [
             Step("add --device c a b", "in sync 2 of 3, events 2, marked 0\n", changes="a b c"),
             outdated("a"),
             Step("remove --member 2 a b c", "in sync 2 of 3, events 3, marked 8\n", told=STORED, changes="a b"),
-            Step("add --device c a b", "in sync 2 of 3, events 4, marked 8\n", told=STANDING % ("c", 3, "", "a spare"), changes="a b c"),
+            Step("add --run --device c a b", "in sync 2 of 3, events 4, marked 8\n", told=STANDING % ("c", 3, "", "a spare"), changes="a b c"),
             outdated("a"),
             Step("rebuild --member 2 a b c", REBUILT, told=STORED, changes="a b c"),
             Step("fail --member 2 a b c", "in sync 2 of 3, events 7, marked 0\n", changes="a b"),
@@ -855,10 +862,10 @@ CASES = [
             for words, fault in [
                 ("read --sector 64 --count 1 a", "OutOfRange"),
                 ("plan --member 0 a", "NotSpare"),
-                ("remove --member 0 a", "StillActive"),
-                ("add --device b a", "TooSmall"),
-                ("re-add --device b a", "Member Super Magic"),
-                ("rebuild --member 0 a", "NotSpare"),
+                ("remove --run --member 0 a", "StillActive"),
+                ("add --run --device b a", "TooSmall"),
+                ("re-add --run --device b a", "Member Super Magic"),
+                ("rebuild --run --member 0 a", "NotSpare"),
             ]
             for step in (Step(words, fault=fault, changes="a"), Made("a", "a", lambda image: OUT_OF_DATE))
         ],
@@ -984,10 +991,10 @@ CASES = [
             Made("b", "b", lambda image: members.with_data(image, 8, DATA)),
             marked_alone("a", 1),
             marked_alone("b", 1),
-            Step("resync --map a=early --map b=early a b", fault="ReadFault 0 1"),
-            Step("resync --verbose --map a=early --map b=early a b", fault="ReadFault 0 1", told=COPY % "a"),
+            Step("resync --run --map a=early --map b=early a b", fault="ReadFault 0 1"),
+            Step("resync --run --verbose --map a=early --map b=early a b", fault="ReadFault 0 1", told=COPY % "a"),
             # Without memory for the runs that are left the write fails: what it wrote is not given.
-            Step("resync --map b=four a b", "in sync 2 of 2, events 2, marked 0\n", changes="a b"),
+            Step("resync --run --map b=four a b", "in sync 2 of 2, events 2, marked 0\n", changes="a b"),
             Step("check a b", AGREE),
             Step("read --sector 8 --count 2 b a", BLANK),
         ],
@@ -1053,7 +1060,7 @@ CASES = [
             Step("check --readonly --exit-code --list b a", "           8 for 8 sectors, members 0!=1\n" + DIFFER, status=DIFFERS),
             Step("check --exit-code --json a b", CHECKED, status=DIFFERS),
             Step("assemble --json --readonly a b", SHORT_OBJECT),
-            Step("detail --json --readonly a b", ('{"report":"detail","array_uuid":"', '}],"missing_roles":[],"used_apart":[],"bad_sectors":[[],[]],"recovering":[]}\n')),
+            Step("detail --json --readonly a b", ('{"report":"detail","array_uuid":"', '}],"missing_roles":[],"used_apart":[],"bad_sectors":[[],[]],"recovering":[],"run_before_kernel":null}\n')),
             # In a further chunk the member lists the sector that differs as bad.
             Made("b", "b", lambda image: members.with_bad_blocks(members.with_data(image, 43, DATA[:SECTOR]), [(2048 + 43, 1)])),
             Step("check a b", DIFFER),
@@ -1179,7 +1186,7 @@ CASES = [
             Step("detail a b c", DETAIL_WITH_A_SPARE),
             Step("plan --member 2 a b c", PLAN),
             Step("remove --member 2 a b c", "in sync 2 of 3, events 3, marked 0\n", changes="a b"),
-            Step("add --device c b a", "in sync 2 of 3, events 4, marked 0\n", told=STANDING % ("c", 3, "", "a spare"), changes="a b c"),
+            Step("add --run --device c b a", "in sync 2 of 3, events 4, marked 0\n", told=STANDING % ("c", 3, "", "a spare"), changes="a b c"),
             Holds("c", "b", added(4)),
             Step("assemble c a b", "in sync 2 of 3, events 4, marked 0\n"),
         ],
@@ -1192,7 +1199,7 @@ CASES = [
             Step("write --sector 8 a b", WRITTEN, changes="a b", given=DATA[:SECTOR]),
             Step("fail --member 1 a b", FAILED, changes="a"),
             Step("remove --member 1 a b", FAILED),
-            Step("add --device b a", "in sync 1 of 2, events 5, marked 0\n", told=STANDING % ("b", 1, " in role 1", "in sync"), changes="a b"),
+            Step("add --run --device b a", "in sync 1 of 2, events 5, marked 0\n", told=STANDING % ("b", 1, " in role 1", "in sync"), changes="a b"),
             Holds("b", "a", lambda first: members.with_data(added(2)(first), 8, DATA[:SECTOR])),
             Step("detail a b", DETAIL_OF_ONE),
             Step("read --sector 8 --count 1 a b", DATA[:SECTOR].decode()),
@@ -1276,8 +1283,8 @@ CASES = [
             create("raid1", 2, 4, "--assume-clean a b", output=CLEAN, changes="a b"),
             Step("assemble b", "in sync 1 of 2, events 1, marked 0\n", told=UNNAMED % (0, 0)),
             # Each of them is written alone: the rise of the events makes the absent one a failed one.
-            Step("write --sector 8 a", "in sync 1 of 2, events 3, marked 1\n", told=UNNAMED % (1, 1), changes="a", given=DATA[:SECTOR]),
-            Step("write --sector 40 b", "in sync 1 of 2, events 3, marked 1\n", told=UNNAMED % (0, 0), changes="b", given=DATA[SECTOR:]),
+            Step("write --run --sector 8 a", "in sync 1 of 2, events 3, marked 1\n", told=UNNAMED % (1, 1), changes="a", given=DATA[:SECTOR]),
+            Step("write --run --sector 40 b", "in sync 1 of 2, events 3, marked 1\n", told=UNNAMED % (0, 0), changes="b", given=DATA[SECTOR:]),
             Step("assemble a b", "in sync 1 of 2, events 3, marked 1\n", told=PARTED % ("b", "a")),
             Step("detail --readonly b a", ("", "     1      0      - faulty\n"), told=PARTED % ("a", "b")),
             # It shows sectors of the first, and says nothing of the other.
@@ -1387,7 +1394,7 @@ CASES = [
             Step("detail --verbose a b", far(DETAIL_OF_ONE_FROM_20, "a b", "2 of 8 chunks (25 %), all before sector 20 but 0 marked")),
             # Of the marked chunks 1 and 5 it has passed the first.
             Made("c", "a", lambda image: members.with_marks(image, [1, 5])),
-            Step("detail --verbose c b", far(DETAIL_OF_ONE_FROM_20.replace("0 of 8", "2 of 8"), "c b", "1 of 8 chunks (12 %), all before sector 20 but 1 marked")),
+            Step("detail --verbose c b", far(DETAIL_OF_ONE_FROM_20.replace("0 of 8", "2 of 8"), "c b", "1 of 8 chunks (12 %), all before sector 20 but 1 marked"), told=SAYS_MARKED),
             SaysTheSame("detail c b"),
             Step("rebuild --member 1 a b", REBUILT_FROM_SECTOR_20, changes="a b"),
             Holds("b", "a", as_role(1, 1)),
@@ -1402,7 +1409,7 @@ CASES = [
             Step("write --sector 0 a", "in sync 1 of 2, events 3, marked 8\n", changes="a", given=members.pattern(1, 64)),
             Made("a", "a", listing),
             Step("add --device b a", "in sync 1 of 2, events 4, marked 8\n", changes="a b"),
-            Step("rebuild --member 1 a b", REBUILT_FROM_ONE, told=UNGIVEN % "b" + UNGIVEN_SECTORS % (1, 43) + CHUNKS_LISTED, changes="a b"),
+            Step("rebuild --run --member 1 a b", REBUILT_FROM_ONE, told=UNGIVEN % "b" + UNGIVEN_SECTORS % (1, 43) + CHUNKS_LISTED, changes="a b"),
             Step("examine-badblocks b", "        2088 for 8 sectors\n"),
             Step("examine-badblocks a", "        2091 for 1 sectors\n"),
             Step("read --sector 43 --count 1 a b", fault="Unreadable 43"),
@@ -1420,10 +1427,10 @@ CASES = [
             Step("add --device b a", "in sync 1 of 2, events 4, marked 8\n", changes="a b"),
             Made("b", "b", without_log),
             # It is admitted, and its data are copied. It stays a recovering member.
-            Step("rebuild --member 1 a b", fault="LogFull 1", changes="a b"),
-            Step("detail a b", DETAIL_OF_RECOVERING),
+            Step("rebuild --run --member 1 a b", fault="LogFull 1", changes="a b"),
+            Step("detail a b", DETAIL_OF_RECOVERING, told=SAYS_MARKED),
             # Until it is recorded again how far it came, the superblock of the second says less.
-            Step("rebuild --member 1 a b", fault="LogFull 1", touches="b"),
+            Step("rebuild --run --member 1 a b", fault="LogFull 1", touches="b"),
             Step("read --sector 0 --count 1 b", fault="Assemble NotEnough"),
         ],
     ),
@@ -1442,7 +1449,7 @@ CASES = [
         [
             NEW_BESIDE_VAULT,
             Step(
-                "rebuild --verbose --map a=late --member 1 a b",
+                "rebuild --run --verbose --map a=late --member 1 a b",
                 REBUILT_BUT_ONE,
                 told=UNGIVEN % "b" + UNGIVEN_SECTORS % (1, 9) + CHUNKS_LISTED,
                 changes="a b",
@@ -1496,7 +1503,7 @@ CASES = [
         [
             NEW_BESIDE_VAULT,
             Step(
-                "rebuild --verbose --map a=late --member 1 a b",
+                "rebuild --run --verbose --map a=late --member 1 a b",
                 """rounds 7, chunks 7, orphans 1
    chunk source    round
        0      0        0
@@ -1552,7 +1559,7 @@ rebuilt member 1, passes 1, orphans 1
             Step("read --sector 8 --count 2 b a c", BLANK),
         ],
     ),
-    ("re-add, the event count can't rise", {"a": SPENT, "b": ZEROS}, [Step("re-add --device b a", fault="Member Super Magic")]),
+    ("re-add, the event count can't rise", {"a": SPENT, "b": ZEROS}, [Step("re-add --run --device b a", fault="Member Super Magic")]),
     (
         "what is not added",
         {"a": ZEROS, "b": ZEROS, "c": SHORT},
@@ -1578,15 +1585,15 @@ rebuilt member 1, passes 1, orphans 1
             Step("rebuild --member 2 a b c", fault="NotSpare"),
         ],
     ),
-    ("add, the event count can't rise", {"a": SPENT, "b": ZEROS}, [Step("add --device b a", fault="EventsFull")]),
+    ("add, the event count can't rise", {"a": SPENT, "b": ZEROS}, [Step("add --run --device b a", fault="EventsFull")]),
     (
         "what an added image holds is told, and of a refused addition the fault alone",
         {"a": ZEROS, "b": ZEROS, "c": changed(ZEROS, (1080, "H", 0xEF53)), "d": changed(SHORT, (1080, "H", 0xEF53))},
         [
             create("raid1", 2, 4, "--assume-clean a b", output=CLEAN, changes="a b"),
-            Step("add --device d a b", fault="TooSmall"),
-            Step("add --device c a b", "in sync 2 of 2, events 2, marked 0\n", told=EXT % "c", changes="a b c"),
-            Step("add --device b a c", "in sync 1 of 2, events 3, marked 0\n", told=FORGOTTEN % "b", changes="a b c"),
+            Step("add --run --device d a b", fault="TooSmall"),
+            Step("add --run --device c a b", "in sync 2 of 2, events 2, marked 0\n", told=EXT % "c", changes="a b c"),
+            Step("add --run --device b a c", "in sync 1 of 2, events 3, marked 0\n", told=FORGOTTEN % "b", changes="a b c"),
         ],
     ),
     ("the plan of a third member", TWO, WITH_A_SPARE + [Step("plan --member 2 a b c", PLAN), Step("plan --json --member 2 a b c", ('{"report":"plan","rounds":', '}]}\n'))]),
@@ -1699,6 +1706,140 @@ LEAST = members.with_superblock(
 MARKED_TWICE = changed(VAULT, (BITMAP + 40, "Q", 32768), (17 * SECTOR, "B", 5))
 MARKED_REPORT = RAW_BITMAP.replace("Super Fault     : Checksum\n", "").replace(": 64 sectors", ": 32768 sectors")
 MARKED_REPORT = MARKED_REPORT.replace("8 chunks, 1 marked", "4096 chunks, 3 marked")
+
+
+
+def at_events(events, roles, **fields):
+    """What makes, of the image of a member, that of one that has this event count, and these roles."""
+    return lambda image: members.with_header(members.with_superblock(image, roles, events=events, **fields), events=events)
+
+
+def made(name, *changes):
+    """An image is changed by each of these in turn."""
+
+    def make(image):
+        for change in changes:
+            image = change(image)
+        return image
+
+    return Made(name, name, make)
+
+
+def marking(*chunks):
+    return lambda image: members.with_marks(image, chunks)
+
+
+def active(image):
+    """The image of a member that was not stopped."""
+    return members.with_superblock(image, resync_offset=0)
+
+
+def unready(images, line, first=None):
+    """What is said, by each command that shows it, of an array that is not ready for a kernel; of one that is, where the line is empty. It is
+    left as it is."""
+    alike = [Step(command + " --readonly " + images, ["     0      0      0 in sync"] if command == "detail" else ("in sync ", "\n"), told=line) for command in ("assemble", "detail")]
+    objects = [HasValues(command + " --readonly " + images, {"/run_before_kernel": first}) for command in ("assemble", "detail")]
+    return alike + [SaysTheSame("assemble " + images), SaysTheSame("detail " + images)] + objects
+
+
+def stopped(images, line, first, changes=""):
+    """What is said as it is stopped, which changes these images."""
+    end = '"run_before_kernel":%s}\n' % ('"%s"' % first if first else "null")
+    return [Step("stop --json " + images, ('{"report":"stop",', end), told=line, changes=changes), Step("stop " + images, ("in sync ", "\n"), told=line)]
+
+
+# Two members of three whose superblocks give the last role to nobody, and one that is recovering in it, as its own tells alone.
+FIRST_MOMENT = WITH_A_SPARE[:1] + [
+    Made("c", "a", as_role(2, 2)),
+    made("c", rebuilt_up_to(0), at_events(2, {2: 2})),
+    made("a", at_events(1, {2: 0xFFFF})),
+    made("b", at_events(1, {2: 0xFFFF})),
+]
+# Chunk 3 differs, as after a write that was cut, and a third member was rebuilt past it.
+CUT_BESIDE_ONE = [
+    create("1", 3, 4, "--assume-clean a b c", output="in sync 3 of 3, events 1, marked 0\n", changes="a b c"),
+    made("a", marking(3), active),
+    made("b", marking(3), active, lambda image: members.with_data(image, 24, DATA)),
+    made("c", active, rebuilt_up_to(48)),
+]
+# The second member of two is recovering: chunk 3 begins before the sector up to which it was rebuilt, and chunk 4 does not.
+TO_SECTOR_25 = [
+    create("1", 2, 4, "--assume-clean a b", output=CLEAN, changes="a b"),
+    made("b", rebuilt_up_to(25)),
+]
+# It is out, and one event behind.
+ONE_BEHIND = TO_SECTOR_25 + [made("a", at_events(2, {1: 0xFFFE}))]
+FOR_A_KERNEL = [
+    (
+        "not ready for a kernel: two that may differ beside a spare",
+        THREE,
+        [
+            create("1", 3, 4, "a b missing", output="in sync 2 of 3, events 1, marked 8\n", changes="a b"),
+            Step("add --device c a b", "in sync 2 of 3, events 2, marked 8\n", changes="a b c"),
+            *unready("a b c", MAY_DIFFER, "resync"),
+            *stopped("a b c", MAY_DIFFER, "resync"),
+            Step("resync a b c", "in sync 2 of 3, events 3, marked 8\n", changes="a b c"),
+            *unready("a b c", ""),
+            *stopped("a b c", "", None),
+        ],
+    ),
+    (
+        "not ready for a kernel: two that differ beside one that is recovering",
+        THREE,
+        CUT_BESIDE_ONE
+        + unready("a b c", MAY_DIFFER, "resync")
+        + stopped("a b c", MAY_DIFFER, "resync")
+        + [Step("resync a b c", "in sync 2 of 3, events 2, marked 1\n", changes="a b c")]
+        + unready("a b c", "")
+        + [Step("check a b c", AGREE)],
+    ),
+    (
+        "ready for a kernel: two that agree, and marks for one that is a spare",
+        THREE,
+        WITH_A_SPARE + [made("a", marking(3)), made("b", marking(3))] + unready("a b c", "") + stopped("a b c", "", None),
+    ),
+    (
+        "not ready for a kernel: a role of which one superblock alone tells",
+        THREE,
+        FIRST_MOMENT
+        + unready("a b c", TOLD_BY_ONE, "rebuild")
+        + [made("b", at_events(2, {2: 2}))]
+        + unready("a b c", "")
+        + stopped("a b c", "", None, changes="a"),
+    ),
+    (
+        "not ready for a kernel: one that says that it has a marked chunk",
+        TWO,
+        TO_SECTOR_25
+        + unready("a b", "")
+        + [made("a", marking(4))]
+        + unready("a b", "")
+        + [made("a", marking(3))]
+        + unready("a b", SAYS_MARKED, "rebuild")
+        + stopped("a b", SAYS_MARKED, "rebuild")
+        + [Step("rebuild --quiet --member 1 a b", "rebuilt member 1, passes 1, orphans 0\n", changes="a b")]
+        + unready("a b", ""),
+    ),
+    (
+        "not ready for a kernel: one that is out, and one event behind",
+        TWO,
+        ONE_BEHIND
+        + unready("a b", LEFT_OUT, "add")
+        + stopped("a b", LEFT_OUT, "add")
+        + [Step("add --run --device b a", "in sync 1 of 2, events 3, marked 0\n", told=STANDING % ("b", 1, " in role 1", "recovering"), changes="a b")]
+        + unready("a b", ""),
+    ),
+    (
+        "ready for a kernel: one that is out, and two events behind",
+        TWO,
+        TO_SECTOR_25 + [made("a", at_events(3, {1: 0xFFFE}))] + unready("a b", ""),
+    ),
+    (
+        "ready for a kernel: one that is out, and says that it has nothing",
+        TWO,
+        ONE_BEHIND + [made("b", rebuilt_up_to(0))] + unready("a b", ""),
+    ),
+]
 
 # The images of as many members as there can be, and the pairs of which the second is one.
 MANY = " ".join("%d.img" % role for role in range(32))

@@ -270,6 +270,15 @@ def recovering(lines):
     ]
 
 
+UNREADY = re.compile(r"mdcli: not ready for a kernel: run mdcli ([a-z-]+) first")
+
+
+def run_before_kernel(told):
+    """The command that lines on standard error say is to be run before a kernel is given the array, or None."""
+    found = [UNREADY.match(line) for line in told]
+    return next((one[1] for one in found if one), None)
+
+
 class SaysTheSame:
     """A report as text and as JSON, which says the same: at the same status, with the same on standard error, and no image is
     changed. It is the object alone in its line, its fields in their order. So is the one that says why it is refused."""
@@ -315,6 +324,8 @@ class SaysTheSame:
             wanted["bad_sectors"] = [runs(run(["examine-badblocks", image])[1].splitlines()) for image in images]
         if command == "detail":
             wanted["recovering"] = recovering(run(["detail", "--verbose", "--readonly"] + images)[1].splitlines())
+        if command in ("assemble", "detail"):
+            wanted["run_before_kernel"] = run_before_kernel(told.splitlines())
         return wanted
 
 

@@ -23,6 +23,8 @@ CLAUSES = CRATES.parent / "docs" / "CLAUSES.md"
 STEP_LAYERS = {"md_state": "a step", "md_array": "a step"}
 MODEL, MIRRORS = "md_model", ("md_kept_members", "md_state", "md_array", "md_laws")
 
+MOST_ARGUMENTS = 7
+
 IMPL = re.compile(r"(?m)^impl(?:<[^{]*?>)? (\w+)(?:<[^{]*?>)?(?:\s+where[^{]*)?\s*\{")
 FUNCTION = re.compile(r"\bfn (\w+)")
 DEFINITION = re.compile(r"(?m)^(?:unfoldable |abbrev |opaque )?pub (?!use |mod )(?:record |data )?([^\s:({]+)")
@@ -101,24 +103,81 @@ def names_with_several_meanings():
 
 
 def calls_nobody_makes():
-    """Functions that a library passes on, whose name stands in no other crate and in no row of CLAUSES. The surface of the library
-    is excepted, and so are laws, whose bodies are empty. Methods of one name count as one."""
-    texts = {}
+    """Functions that a library passes on and that no other crate calls. Excepted are the surface of the library, laws, whose
+    bodies are empty, and a function that its own crate calls and a row of CLAUSES names.
+
+    A call is a name that is not being defined. A crate may have a function of that name of its own. Then a call there counts for
+    this function only if the crate names its type too, or takes the function from there by `use`."""
+    texts, words, defined = {}, {}, {}
     for file in sources():
         texts.setdefault(crate_of(file), {})[file] = code(file)
-    words = {crate: set(re.findall(r"\w+", " ".join(there.values()))) for crate, there in texts.items()}
-    known = {name.split("::")[-1] for name in surface.functions()}
-    known.update(re.findall(r"\w+", " ".join(re.findall(r"`[^`]+`", CLAUSES.read_text()))))
+    for crate, there in texts.items():
+        text = " ".join(there.values())
+        words[crate] = set(re.findall(r"\w+", re.sub(r"\bfn \w+", "", text)))
+        defined[crate] = set(FUNCTION.findall(text))
+    on_surface = surface.functions()
+    promised = set(re.findall(r"\w+", " ".join(re.findall(r"`[^`]+`", CLAUSES.read_text()))))
+
+    def is_called(crate, owner, name):
+        """By another crate: the owner is the type of a method, or the crate of a function that is none."""
+        return any(name in there and (name not in defined[other] or owner in there) for other, there in words.items() if other != crate)
+
     reasons = []
     for crate, there in sorted(texts.items()):
         passed_on = set(re.findall(r"\w+", " ".join(re.findall(r"pub use [^;]*;", there.get(CRATES / crate / "src" / "lib.rt", "")))))
-        called = known.union(*(names for other, names in words.items() if other != crate))
         for file, text in there.items():
             for found in re.finditer(r"(?m)^( *)pub (?:const )?fn (\w+)", text):
-                owner = IMPL.findall(text[: found.start()])[-1:] if found[1] else [found[2]]
+                name = found[2]
+                types = IMPL.findall(text[: found.start()])[-1:] if found[1] else []
                 is_law = re.match(r"[^;]*?\n\{\s*\}", text[found.end() :].partition("\npub ")[0])
-                if passed_on.intersection(owner) and not is_law and found[2] not in called:
-                    reasons.append("%s: %s" % (place(file), found[2]))
+                if not passed_on.intersection(types or [name]) or is_law:
+                    continue
+                if "::".join(types + [name]) in on_surface or name in promised & words[crate]:
+                    continue
+                if not is_called(crate, (types or [crate])[0], name):
+                    reasons.append("%s: %s" % (place(file), name))
+    return reasons
+
+
+def closing(text, at):
+    """The place after the bracket that closes the one at this place. An arrow closes none."""
+    depth = 0
+    for place in range(at, len(text)):
+        if text[place] in "([{<":
+            depth += 1
+        elif text[place] in ")]}" or text[place] == ">" and text[place - 1] not in "-=":
+            depth -= 1
+        if depth == 0:
+            return place + 1
+    return len(text)
+
+
+def argument_count(text, at):
+    """How many arguments the function has whose name ends at this place."""
+    if text[at] == "<":
+        at = closing(text, at)
+    depth, count, last = 0, 0, ""
+    for place in range(at + 1, closing(text, at) - 1):
+        letter = text[place]
+        if letter in "([{<":
+            depth += 1
+        elif letter in ")]}" or letter == ">" and text[place - 1] not in "-=":
+            depth -= 1
+        if letter == "," and depth == 0:
+            count, last = count + 1, ""
+        else:
+            last += letter
+    return count + bool(last.strip())
+
+
+def functions_of_many_arguments():
+    reasons = []
+    for file in sources():
+        text = code(file)
+        for found in re.finditer(r"\bfn (\w+)(?=[<(])", text):
+            count = argument_count(text, found.end())
+            if count > MOST_ARGUMENTS:
+                reasons.append("%s: %s has %d" % (place(file), found[1], count))
     return reasons
 
 
@@ -162,6 +221,7 @@ COUNTS = {
     "gerunds that name sources of two crates": shared_gerunds,
     "names of several definitions": names_with_several_meanings,
     "functions named by a bare participle": bare_participles,
+    "functions with more than seven arguments": functions_of_many_arguments,
     "public functions that nobody calls outside their crate": calls_nobody_makes,
     "places where ? is spelled out": lambda: matches(QUESTION),
     "places where From is spelled out": lambda: matches(FROM),

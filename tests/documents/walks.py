@@ -19,7 +19,7 @@ OPENING = """
 mdcli/main.rt: main
 md_cli/running.rt: run
 md_cli/open/arrays.rt: with_array
-md_cli/open/devices.rt: open_devices
+md_cli/open/devices.rt: change_devices open_devices
 md_cli/lists/performing_and_storing.rt: perform_and_store store_and_perform
 md_cli/performing.rt: perform
 """
@@ -29,7 +29,8 @@ md_commands/writing.rt: write_array
 md_commands/writing_pieces.rt: write_in_pieces
 md_write/whole_write.rt: write write_once
 md_write/data.rt: write_to_members
-md_array/steps/write_member.rt: write_member put_on
+md_array/steps/write_member.rt: write_member
+md_state/data_area.rt: put_on
 md_members/device_writes/one_write.rt: put
 md_device/device.rt: write
 """,

@@ -16,6 +16,7 @@ SECTOR = 512
 SET = "00112233-4455-6677-8899-aabbccddeeff"
 
 CLOSE_WRITE, CLOSE_NOWRITE = 0x8, 0x10
+EXCHANGED = "another file took its place while it was opened; a file system that can't lock is refused too: copy the image to another one"
 
 
 class Unavailable(Exception):
@@ -68,6 +69,33 @@ def loop_device(path, *options):
         yield device
     finally:
         subprocess.run(["losetup", "--detach", device], stdin=subprocess.DEVNULL)
+
+
+# What linux/loop.h has loop-control make and take away a device by, and the major number of all of them.
+LOOP_CTL_ADD, LOOP_CTL_REMOVE, LOOP_MAJOR = 0x4C80, 0x4C81, 7
+
+
+@contextlib.contextmanager
+def numbered_loop(path, node, number):
+    """A loop device of this number over a file, by a node that is made for it."""
+    if os.geteuid() != 0:
+        raise Unavailable("only root can set up a loop device")
+    try:
+        control = open("/dev/loop-control", "rb")
+        fcntl.ioctl(control, LOOP_CTL_ADD, number)
+    except OSError as error:
+        raise Unavailable("loop device %d: %s" % (number, error.strerror))
+    with control:
+        os.mknod(str(node), 0o600 | stat.S_IFBLK, os.makedev(LOOP_MAJOR, number))
+        try:
+            tool("losetup", node, path)
+            yield node
+        finally:
+            subprocess.run(["losetup", "--detach", str(node)], stdin=subprocess.DEVNULL, stderr=subprocess.DEVNULL)
+            node.unlink()
+            # Another program may still look at it.
+            with contextlib.suppress(OSError):
+                fcntl.ioctl(control, LOOP_CTL_REMOVE, number)
 
 
 @contextlib.contextmanager
@@ -123,6 +151,13 @@ class Disks:
 
     def image(self, name, content=b"\x5a" * (4096 * SECTOR), mode=0o666):
         return self.checks.copy(name, content, mode)
+
+    def library(self, source):
+        """The library of this C source, which is preloaded."""
+        library = support.library_of(Path(__file__).resolve().parent / source, self.scratch)
+        if library is None:
+            raise Unavailable("there is no C compiler")
+        return library
 
     def judge(self, name, answer, wanted, unchanged=()):
         """Whether a run gave the answer, and left each of these images with these bytes."""
@@ -214,6 +249,20 @@ class Disks:
                 tool("umount", folder)
             for image in (device, backing):
                 self.judge("%s, no more: %s" % (name, Path(image).name), self.run(create([image]))[0], 0)
+
+    def great_minor(self, name):
+        """Its minor number takes more than eight bits, as a partition of an NVMe disk may have it."""
+        backing = self.image("backing of a great minor.img", bytes(8192 * SECTOR))
+        folder = self.scratch / "mounted great minor"
+        folder.mkdir()
+        with numbered_loop(backing, self.scratch / "great minor", 300) as device:
+            tool("mkfs.ext4", "-q", device)
+            tool("mount", "-o", "ro", device, folder)
+            try:
+                self.used_and_file_below(name, device, backing)
+            finally:
+                tool("umount", folder)
+            self.judge(name + ", no more", self.run(create([device]))[0], 0)
 
     def mounted_above(self, name):
         """Over a disk there is a loop device, which is mounted."""
@@ -307,7 +356,8 @@ class Disks:
             self.used_and_file_below(name, device, backing)
 
     def partitioned(self, name):
-        """Of two partitions the first is mounted: neither it nor the disk is changed, and the second may be."""
+        """Of two partitions the first is mounted: neither it nor the disk is changed, and the second may be. While the disk is mounted no
+        partition is changed."""
         backing = self.image("partitioned backing.img", two_partitions())
         folder = self.scratch / "mounted partition"
         folder.mkdir()
@@ -323,6 +373,14 @@ class Disks:
                     self.judge(name + ": another partition", self.run(create([second]))[0], 0)
                 finally:
                     tool("umount", folder)
+                # The system keeps the partitions.
+                tool("mkfs.ext4", "-q", "-F", device)
+                tool("mount", "-o", "ro", device, folder)
+                try:
+                    self.refused_in_use(name + ": a partition, while the disk is mounted", first)
+                finally:
+                    tool("umount", folder)
+                self.judge(name + ": a partition, while it is no more", self.run(create([first]))[0], 0)
             finally:
                 tool("partx", "--delete", device)
 
@@ -331,11 +389,32 @@ class Disks:
             node = self.scratch / "node"
             os.mknod(str(node), 0o600 | stat.S_IFBLK, os.stat(device).st_rdev)
             self.judge(name, self.run(create([device, node])), (1, "", "mdcli: BadImage 1\n"))
+            self.run(create([device]))
+            words = [str(support.PROGRAM), "serve", device]
+            with subprocess.Popen(words, stdin=subprocess.PIPE, stdout=subprocess.PIPE, stderr=subprocess.DEVNULL) as server:
+                # Once it greets its client it has the disk.
+                got = server.stdout.read(8), self.run(["fail", "--member", "0", node]), self.run(["detail", "--readonly", node])
+                server.stdin.close()
+            refused = (1, "", "mdcli: BadImage 0\n")
+            self.judge(name + ", each of another program", got, (b"NBDMAGIC", refused, refused))
+
+    def exchanged(self, name):
+        """Between the look at a name and its opening a disk comes in the place of a file, or a file in that of a disk."""
+        library = self.library("exchange.c")
+        path, other = self.scratch / "exchanged.img", self.scratch / "exchanged.img.other"
+        with loop_device(self.image("disk to exchange.img")) as device:
+            for disk, file, part in ((path, other, "a file in the place of a disk"), (other, path, "a disk in the place of a file")):
+                os.mknod(str(disk), 0o600 | stat.S_IFBLK, os.stat(device).st_rdev)
+                self.image(file.name)
+                settings = {**os.environ, "LD_PRELOAD": str(library), "EXCHANGED": str(path)}
+                answer = self.run(["examine", "--verbose", path], program=support.PROGRAM, env=settings)
+                wanted = (1, "", "mdcli: BadImage 0\n%s: %s\n" % (path, EXCHANGED))
+                self.judge("%s: %s" % (name, part), (answer, other.exists()), (wanted, False))
+                path.unlink()
 
     def failing_calls(self, name):
-        """Each write and each sync fails in turn: the image whose it is is named, and is used no more after a sync."""
-        library = self.scratch / "fail.so"
-        tool("cc", "-shared", "-fPIC", "-O1", "-o", library, Path(__file__).resolve().parent / "fail.c")
+        """Each write and each sync fails in turn: the image whose it is is named, and after a sync it is only written again."""
+        library = self.library("fail.c")
         log = self.scratch / "calls"
         images = [self.scratch / ("failing %d.img" % number) for number in range(2)]
 
@@ -366,8 +445,10 @@ class Disks:
             wanted = (1, "", "mdcli: %s %d\n" % (fault, files.index(int(file))))
             if answer != wanted:
                 reasons.append("call %d, a %s: the answer is %r, and not %r" % (failed, call, answer, wanted))
-            if call == "sync" and file in [other for _, other in made[failed:]]:
-                reasons.append("call %d: the file is used after its sync failed" % failed)
+            later = [kind for kind, other in made[failed:] if other == file]
+            # What a sync failed to bring to the disk is written again, and nothing else is done with the file.
+            if call == "sync" and set(later) != (set() if failed <= len(opening) else {"write"}):
+                reasons.append("call %d: after its sync failed the file is used so: %r" % (failed, later))
         self.tally.judge(name, reasons)
 
     def all(self):
@@ -376,6 +457,7 @@ class Disks:
         self.attempt("create, an image that may not be written", self.not_writable)
         self.attempt("create, a read-only block device", self.read_only_device)
         self.attempt("a mounted disk", self.mounted)
+        self.attempt("a mounted disk with a great minor number", self.great_minor)
         self.attempt("a disk below a mounted one", self.mounted_above)
         self.attempt("a file below two loop devices", self.stacked)
         self.attempt("a disk that is swapped on", self.swapped_on)
@@ -383,4 +465,5 @@ class Disks:
         self.attempt("a disk that device mapper holds", self.held)
         self.attempt("a disk with a mounted partition", self.partitioned)
         self.attempt("two nodes of one disk", self.two_nodes)
+        self.attempt("another file by the opening", self.exchanged)
         self.attempt("create, each write and sync fails in turn", self.failing_calls)

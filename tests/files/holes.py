@@ -1,5 +1,5 @@
-"""Zeros that are written to an image or put out: where zeros stand already nothing is written, so that a hole stays one; where data
-stand they are gone. Pieces of 64 KiB are looked at, counted from where a write begins."""
+"""Zeros that are written to an image or put out. If an image with holes shows zeros there already, nothing is written, so that a hole
+stays a hole. If it has data there, the zeros replace them. This goes by pieces of 64 KiB, counted from the place at which a write begins."""
 
 import os
 
@@ -81,6 +81,20 @@ class Holes:
             self.holds(reasons, image, bytes(held))
         self.tally.judge(name, reasons)
 
+    def written_to_a_disk(self, name):
+        """A disk may show zeros that it does not have, and tells nothing of holes. Whether they were written to this one its file shows."""
+        reasons, backing = [], self.image("ten.img")
+        try:
+            with disks.loop_device(backing) as device:
+                self.done(reasons, disks.create([device]) + ["--assume-clean"])
+                self.write(reasons, [device], bytes(40 * PIECE))
+        except disks.Unavailable as reason:
+            return self.tally.skipped(name, str(reason))
+        taken = os.stat(str(backing)).st_blocks * SECTOR
+        if taken < 40 * PIECE:
+            reasons.append("of its file %d bytes are written" % taken)
+        self.tally.judge(name, reasons)
+
     def rebuilt(self, name, fill, is_sparse):
         reasons, one, new = [], self.image("five.img"), self.image("new.img", fill)
         self.done(reasons, disks.create([one, "missing"]) + ["--assume-clean"])
@@ -126,6 +140,7 @@ class Holes:
     def all(self):
         self.written("zeros are written into holes: these stay")
         self.written_over("zeros are written over data: these are gone")
+        self.written_to_a_disk("zeros are written to a disk that shows zeros: they are on it")
         self.rebuilt("a sparse image is rebuilt: it stays sparse", None, True)
         self.rebuilt("an image full of data is rebuilt: it gets the zeros", 0xA5, False)
         self.put_out("an array with holes is put out: they are holes of the file")

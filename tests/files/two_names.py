@@ -1,6 +1,7 @@
 """One disk by two names: a loop device beside its file, loop devices over parts that overlap, a partition beside its disk."""
 
 import os
+from pathlib import Path
 
 import disks
 from disks import SECTOR, create, loop_device, tool
@@ -18,6 +19,13 @@ class TwoNames(disks.Disks):
             self.judge(name + ": create", self.run(words[:1] + ["--verbose"] + words[1:]), told)
             self.judge(name + ": detail", self.run(["detail", "--readonly", "--verbose"] + [str(image) for image in images]), told)
 
+    def output_is(self, name, image, output):
+        """Standard output lies on the image, by the image's other name: nothing is put out there."""
+        before = [(image, Path(image).read_bytes())]
+        with open(str(output), "r+b") as stream:
+            answer = self.run(["examine", str(image)], stdout=stream)
+        self.judge(name, answer, (1, "", "mdcli: OutputIsImage 0\n"), before)
+
     def taken(self, name, one, other):
         """The two are an array's members."""
         self.judge(name + ": create", self.run(create([one, other]))[0], 0)
@@ -30,6 +38,8 @@ class TwoNames(disks.Disks):
         os.link(str(image), str(link))
         with loop_device(image) as device:
             self.refused(name, image, device)
+            self.output_is(name + ": put out to the device", image, device)
+            self.output_is(name + ": put out to the file", device, image)
             self.refused(name + ", another link to it", link, device)
             with loop_device(image) as second:
                 self.refused(name + ", a second one", device, second)
@@ -67,6 +77,7 @@ class TwoNames(disks.Disks):
             try:
                 first, second = device + "p1", device + "p2"
                 self.refused(name + ", and the disk", first, device)
+                self.output_is(name + ": put out to the disk", first, device)
                 self.refused(name + ", and its file", backing, second)
                 self.taken(name, first, second)
             finally:

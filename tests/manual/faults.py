@@ -13,6 +13,7 @@ CRATES = support.TOP / "crates"
 ADVICE = CRATES / "md_messages" / "src" / "advice" / "advice.rt"
 MAPS = CRATES / "md_files" / "src" / "masks" / "images" / "advice.rt"
 OUTPUT_FILES = CRATES / "md_files" / "src" / "sparse" / "fault.rt"
+STREAMS = CRATES / "md_outputs" / "src" / "streams.rt"
 RESUMED = CRATES / "md_outputs" / "src" / "map" / "resume_fault.rt"
 LIMITS = CRATES / "md_messages" / "src" / "advice" / "geometry_advice.rt"
 
@@ -57,7 +58,7 @@ OF_REQUESTS_IN_FLIGHT = {"InFlight #", "NumbersSpent", "Overlaps #"}
 def declared():
     """The names of all faults that a command may be refused for, each with the variants that it is made of."""
     names = names_of("CommandFault", enums())
-    for fault in ("MapsFault", "MapRefusal", "LineFault", "MapOutFault", "OutputFileFault", "ResumeFault"):
+    for fault in ("MapsFault", "MapRefusal", "LineFault", "MapOutFault", "OutputFileFault", "ResumeFault", "StreamFault"):
         names.update(names_of(fault, enums()))
     # Wherever memory runs out, the command answers `NoMemory' alone.
     found = {"NoMemory" if name.endswith(" NoMemory") else name: path for name, path in names.items()}
@@ -93,7 +94,7 @@ def limits_tabled():
 
 def advice():
     """What the program says to do, by variant."""
-    text = ADVICE.read_text() + MAPS.read_text() + OUTPUT_FILES.read_text() + RESUMED.read_text()
+    text = ADVICE.read_text() + MAPS.read_text() + OUTPUT_FILES.read_text() + RESUMED.read_text() + STREAMS.read_text()
     named = constants()
     found = {}
     for pattern, words, constant in re.findall(r'([\w:()_,|\s]+?)=>\s*\{?\s*(?:"((?:[^"\\]|\\.)*)"|([A-Z_]+)\b)', text):

@@ -1,5 +1,6 @@
 """What ddrescue and ddrescuelog do of the page's commands: for machines without them."""
 
+import sys
 from pathlib import Path
 
 UNITS = {"MiB": 1 << 20, "KiB": 1 << 10}
@@ -11,9 +12,12 @@ def option(words, name):
 
 
 def blocks(text):
-    """The blocks of a map: a first byte, how many bytes, and the status."""
-    lines = [line.split() for line in text.splitlines() if line and not line.startswith("#")][1:]
-    return [(int(start, 16), int(length, 16), status) for start, length, status in lines]
+    """The blocks of a map: a first byte, how many bytes, and the status. An empty map has none."""
+    lines = [line.split() for line in text.splitlines() if line and not line.startswith("#")]
+    if lines and len(lines[0]) < 2:
+        print("Error in mapfile, line 1: Bad or missing status line.", file=sys.stderr)
+        sys.exit(2)
+    return [(int(start, 16), int(length, 16), status) for start, length, status in lines[1:]]
 
 
 def written(found):
@@ -33,11 +37,15 @@ def copy(disk, holes, image, map):
 
 
 def fill(source, image, map, domain):
-    """Copies from the source what the map has as bad, and the domain, where there is one, as rescued; and notes it in the map."""
-    given, content = Path(source).read_bytes(), bytearray(Path(image).read_bytes())
+    """Copies from the source what the map has as bad, and the domain, where there is one, as rescued; and notes it in the map. Without
+    a map, or with an empty one, nothing was read yet."""
+    given, image, map = Path(source).read_bytes(), Path(image), Path(map)
+    content = bytearray(image.read_bytes() if image.exists() else b"")
     may = blocks(Path(domain).read_text()) if domain else [(0, len(given), "+")]
+    known = blocks(map.read_text()) if map.exists() else []
+    end = max((start + length for start, length, _ in known), default=0)
     found = []
-    for start, length, status in blocks(Path(map).read_text()):
+    for start, length, status in known + [(end, len(given) - end, "?")] * (end < len(given)):
         edges = {start, start + length}
         if status != "+":
             edges |= {edge for at, n, _ in may for edge in (at, at + n) if start < edge < start + length}
@@ -47,16 +55,29 @@ def fill(source, image, map, domain):
             if status != "+" and is_given:
                 content[at:end] = given[at:end]
             found.append((at, end - at, "+" if is_given else status))
-    Path(image).write_bytes(content)
-    Path(map).write_text(written(found))
+    image.write_bytes(content)
+    map.write_text(written(found))
 
 
-def shift(map, back):
-    """Puts out the map with its blocks so many bytes further to the front; what comes to lie before it falls away."""
-    back = next((int(back[: -len(unit)]) * size for unit, size in UNITS.items() if back.endswith(unit)), None) or int(back)
-    found = []
-    for start, length, status in blocks(Path(map).read_text()):
-        first, end = max(start - back, 0), start + length - back
-        if first < end:
-            found.append((first, end - first, status))
+def both(one, other):
+    """The blocks that are rescued in both, and all others as bad."""
+    edges = sorted({edge for at, n, _ in one + other for edge in (at, at + n)})
+    has = [{start for start in edges for at, n, status in map if status == "+" and at <= start < at + n} for map in (one, other)]
+    return [(at, end - at, "+" if at in has[0] & has[1] else "-") for at, end in zip(edges, edges[1:])]
+
+
+def log(words):
+    """What ddrescuelog puts out of its last word, a map: its blocks so many bytes further to the front, of which what comes to lie before
+    it falls away; or of other kinds; or only those that another map has as rescued too."""
+    found = blocks(sys.stdin.read() if words[-1] == "-" else Path(words[-1]).read_text())
+    back, types, other = (option(words, name) for name in ("--input-position", "--change-types", "--and-mapfile"))
+    if types:
+        old, new = types.split(",")
+        found = [(at, n, new[old.index(status)] if status in old else status) for at, n, status in found]
+    if other:
+        found = both(found, blocks(Path(other).read_text()))
+    if back:
+        back = next((int(back[: -len(unit)]) * size for unit, size in UNITS.items() if back.endswith(unit)), None) or int(back)
+        moved = [(max(start - back, 0), start + length - back, status) for start, length, status in found]
+        found = [(first, end - first, status) for first, end, status in moved if first < end]
     print(written(found), end="")

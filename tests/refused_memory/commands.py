@@ -49,7 +49,7 @@ class Program:
             self.answer = (
                 done.returncode,
                 done.stdout.decode("utf-8", "backslashreplace"),
-                done.stderr.decode("utf-8", "backslashreplace"),
+                support.but_stray(done.stderr.decode("utf-8", "backslashreplace")),
             )
         return self.answer
 

@@ -1,8 +1,8 @@
-"""The tests of the crates *_tests, each with each of its calls for memory refused in turn. A test passes, or fails in order; it
-never faults, hangs, or leaves memory that it does not free.
+"""The tests of mirror_tests and command_tests, each with each of its calls for memory refused in turn. A test passes, or fails in order;
+it never faults, hangs, or leaves memory that it does not free.
 
-The blocks that are left are counted in part_tests and step_tests: no proof speaks of what is not freed. In others some tests start
-threads, for which the C library keeps blocks of its own."""
+The tests of parts and steps, of image files and of NBD also count the blocks that are left: no proof says that all are freed. Some
+of the other tests start threads, for which the C library keeps blocks of its own."""
 
 import concurrent.futures
 import os
@@ -19,18 +19,16 @@ SECONDS = 60
 # calls of the others thousands of times, those that plan large tables or salvage hundreds of bad sectors, or into a full log, which take long, and those that
 # crash an array at each write, or many times.
 SUITES = {
-    "part_tests": r"plans::large_tables::|nbd_spoiled::",
-    "step_tests": r"\w+::every_order::",
-    "call_tests": r"salvages::|listed_sectors::|salvage_rows::refused",
-    "crash_tests": r"each_write::|lives::",
-    "command_tests": None,
+    "mirror_tests": r"parts::plans::large_tables::|steps::every_order::|calls::(salvages::|listed_sectors::|salvage_rows::refused)|"
+    r"crashes::(each_write::|lives::)",
+    "command_tests": r"nbd_spoiled::",
 }
-COUNTS_BLOCKS = ("part_tests", "step_tests")
+COUNTS_BLOCKS = re.compile(r"parts::|steps::|image_files::|nbd_")
 
-# In these a call that finds no memory is made again, or ends the test, and so no comparison may fail; see their src/play.rt.
-NEVER_DIFFER = ("step_tests", "call_tests")
+# In these a call that finds no memory is made again, or ends the test, and so no comparison may fail; see the play.rt beside them.
+NEVER_DIFFER = re.compile(r"steps::|calls::")
 # But for these, whose reads have to overlap: where a thread finds no memory its read comes after the other one.
-OVERLAPPING = ("array_checks::checks", "rebuilds::reads_overlap")
+OVERLAPPING = ("calls::array_checks::checks", "calls::rebuilds::reads_overlap")
 
 LEAKED = 99
 IS_ASSERTION = re.compile(r"^test stopped at src/", re.M)
@@ -54,7 +52,7 @@ def program(suite):
 
 def run_test(suite, name, settings):
     """The status of a run and its output."""
-    if suite in COUNTS_BLOCKS:
+    if COUNTS_BLOCKS.match(name):
         settings["LEFT_BLOCKS"] = "1"
     try:
         done = subprocess.run(
@@ -65,14 +63,14 @@ def run_test(suite, name, settings):
     return done.returncode, (done.stdout + done.stderr).decode("utf-8", "replace")
 
 
-def against(suite, name, status, output):
+def against(name, status, output):
     """The reason against a run, if there is one."""
     if status is None:
         return "it does not end"
     if status in (0, 101):
         return None
     if status == -6 or status == 134:
-        if IS_ASSERTION.search(output) and (suite not in NEVER_DIFFER or name in OVERLAPPING):
+        if IS_ASSERTION.search(output) and (not NEVER_DIFFER.match(name) or name in OVERLAPPING):
             return None
     if status == LEAKED:
         return "it leaves memory that it did not free"
@@ -86,7 +84,7 @@ def sweep_test(suite, name, library):
             outcome.reasons.append("the calls come to no end")
             break
         outcome.calls = number
-        reason = against(suite, name, *ended)
+        reason = against(name, *ended)
         if reason:
             outcome.reasons.append("where call %d is refused: %s" % (number, reason))
             break

@@ -54,14 +54,14 @@ class Answer:
 
     def __init__(self, words, given=b"", **settings):
         done = subprocess.run(
-            [str(support.PROGRAM), *words],
+            [str(support.PROGRAM), *support.unasked(words)],
             input=given,
             capture_output=True,
             timeout=SECONDS,
             env={**os.environ, **settings},
         )
         self.status, self.output = done.returncode, done.stdout
-        self.errors = done.stderr.decode("utf-8", "backslashreplace")
+        self.errors = support.but_stray(done.stderr.decode("utf-8", "backslashreplace"))
 
     def against(self, status, output, errors=""):
         reasons = []
@@ -167,7 +167,7 @@ class Served:
 
     def leave(self):
         _, errors = self.process.communicate(timeout=SECONDS)
-        return self.process.returncode, errors.decode("utf-8", "backslashreplace")
+        return self.process.returncode, support.but_stray(errors.decode("utf-8", "backslashreplace"))
 
 
 class Socket:

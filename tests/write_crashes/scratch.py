@@ -42,7 +42,7 @@ class Answer:
     def __init__(self, done, calls):
         self.status = done.returncode
         self.output = done.stdout
-        self.errors = done.stderr.decode("utf-8", "backslashreplace")
+        self.errors = support.but_stray(done.stderr.decode("utf-8", "backslashreplace"))
         self.calls = calls
         self.writes = [call for call in calls if call.kind != "read"]
         self.reads = [call for call in calls if call.kind == "read"]
@@ -75,7 +75,7 @@ class Scratch:
         names = [image if image == "missing" else str(self.path(image)) for image in images]
         done = subprocess.run(
             # The program itself: the launcher is a shell, which the library would follow too.
-            [str(support.PROGRAM)] + [str(word) for word in words] + names,
+            [str(support.PROGRAM)] + support.unasked(words) + names,
             input=given,
             stdout=subprocess.PIPE,
             stderr=subprocess.PIPE,

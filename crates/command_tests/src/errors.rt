@@ -1,7 +1,7 @@
 // Standard error in memory.
 ghost use Rattle.std.specs.Prelude.{Some, ⊤};
 
-use md_examine::{Sink, SinkFault};
+use md_streams::{Sink, SinkFault};
 use std::alloc::Global;
 use std::io::{Result as IoResult, Write};
 

@@ -3,7 +3,7 @@
 use crate::commands::{Case, DONE, play};
 use crate::images::{BLANK, Image, MEMBER};
 use crate::sources::Step;
-use md_messages::Messages;
+use md_streams::Messages;
 use std::test::Fail;
 
 // The sector with the magic number of btrfs.

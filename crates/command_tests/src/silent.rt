@@ -2,10 +2,8 @@
 ghost use Rattle.std.specs.Prelude.{⊤, false};
 
 use md_badblocks::Run;
-use md_cli::{FillWatch, ReadWatch};
-use md_commands::{Gate, Watch};
-use md_messages::Asker;
 use md_nbd::{ClientWatch, RefusedRequest};
+use md_streams::{Asker, FillWatch, Gate, ReadWatch, Watch};
 
 /// Is told of a rebuild, a check, a read or a write, and says nothing of it.
 pub(crate) struct Silent;

@@ -1,8 +1,6 @@
 // A question that a terminal can't be shown.
 use crate::checks::holds;
-use md_commands::Input;
-use md_examine::Output;
-use md_messages::Questions;
+use md_streams::{Input, Output, Questions};
 
 const LINES: &[u8] = b"mdcli: b: holds ext2, ext3 or ext4\n";
 

@@ -24,4 +24,6 @@ pub use md_faults::{
     FinishFault, NoteFault, ReAddFault, RemoveFault, StoreFault, TargetFault, WriteMemberFault,
 };
 pub use md_inflight::Pending;
+pub use md_state::put_on;
 pub use mirror::Mirror;
+pub use open::read_members;

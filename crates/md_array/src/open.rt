@@ -69,10 +69,11 @@ fn assembly_refusal(fault: AssembleFault) -> OpenFault
 }
 
 /// Reads each device as a member, up to the first that is refused.
-pub(crate) fn read_members<D: Device>(
+pub fn read_members<D: Device>(
     alloc: Global,
     devices: &mut [D],
 ) -> Result<Vec<MemberInfo>, OpenFault>
+    ensures as_many { length devices.new ≡ length devices.old }
     ensures untouched { IsUntouched (map (disk_of D.Device) devices.old) (map (disk_of D.Device) devices.new) }
     ensures read { MatchResult result (λ infos. AreRead (map (disk_of D.Device) devices.old) infos.items)
         (RefusesReading (map (disk_of D.Device) devices.old) (map (disk_of D.Device) devices.new)) }

@@ -1,5 +1,5 @@
 // A set of bad sectors, seen as its maximal runs.
-ghost use Rattle.std.specs.Prelude.{◌≡◌, ◌+◌, ◌^◌, ◌<◌, ◌≤◌, ◌⊎◌, ◌↔◌, ℕ, List, [], IsTrue, OnOk, OnErr};
+ghost use Rattle.std.specs.Prelude.{◌≡◌, ◌+◌, ◌^◌, ◌<◌, ◌≤◌, ◌⊎◌, ◌↔◌, ℕ, List, [], IsTrue, IfOk, OnOk, OnErr};
 ghost use Rattle.md_badblocks.specs.Runs.{IsBad, IsCanonical, entries_needed};
 
 use crate::editing::{cut, first_ending_at, join};
@@ -39,6 +39,16 @@ impl BadSet {
         BadSet {
             runs: Vec::new(alloc),
         }
+    }
+
+    /// A list of the same sectors.
+    pub fn try_clone(&self, alloc: Global) -> Result<BadSet, AllocError>
+        ensures canonical { IfOk result IsCanonical }
+        ensures same { IfOk result (λ list. (sector : ℕ) → IsBad list sector ↔ IsBad self.now sector) }
+    {
+        Ok(BadSet {
+            runs: Vec::from_slice(alloc, &self.runs)?,
+        })
     }
 
     /// Whether no sector is bad.

@@ -31,12 +31,4 @@ impl ChunkList {
     {
         self.list.as_slice()
     }
-
-    /// The list itself. It takes no memory.
-    pub fn into_vec(self) -> Vec<u32>
-        ensures { result.items ≡ self }
-    {
-        let ChunkList { list: chunks } = self;
-        chunks
-    }
 }

@@ -40,12 +40,4 @@ impl Slots {
     {
         self.list.as_slice()
     }
-
-    /// The list itself. It takes no memory.
-    pub fn into_vec(self) -> Vec<Slot>
-        ensures { result.items ≡ self }
-    {
-        let Slots { list: slots } = self;
-        slots
-    }
 }

@@ -3,9 +3,10 @@ use Rattle.std.proofs.Common.{◌≡◌, ◌≢◌, ◌⊎◌, inl, inr, ℕ, ze
 use Rattle.std.proofs.lemmas.Bool.{cases_lt}
 use Rattle.std.proofs.Math.Nat.{eq-or-lt_of_le}
 use Rattle.md_bitmap.specs.declared.chunks.Chunks.{Chunks}
-use Rattle.md_check.specs.declared.found.Comparison.{Comparison}
-use Rattle.md_check.specs.declared.found.Pair.{Pair}
-use Rattle.md_check.specs.Differences.{AddsCompared, AddsDifferent, AddsToPair, AddsToPairs, AreCompared, AreDifferent, DifferBetween, DifferIn, IsEmpty, IsSamePair, IsSized, KeepsPairs}
+use Rattle.md_collect.specs.declared.found.Comparison.{Comparison}
+use Rattle.md_collect.specs.declared.found.Pair.{Pair}
+use Rattle.md_check.specs.Differences.{AddsCompared, AddsDifferent, AddsToPair, AddsToPairs, AreCompared, AreDifferent, DifferBetween, DifferIn, IsEmpty, IsSamePair, KeepsPairs}
+use Rattle.md_collect.specs.Found.{IsSized}
 use Rattle.md_check.specs.Pairs.{pair_names}
 use Rattle.md_check.proofs.Differing.{adds_none, adds_then, between_as, differ_as, different_after, different_none}
 

@@ -13,7 +13,7 @@ use Rattle.md_badblocks.specs.declared.run.Run.{Run}
 use Rattle.md_badblocks.specs.Runs.{IsBad}
 use Rattle.md_bitmap.specs.declared.chunks.Chunks.{Chunks}
 use Rattle.md_collect.specs.Reading.{CountsFailure}
-use Rattle.md_collect.specs.declared.workers.gate.Gate.{Ghosts as Gates}
+use Rattle.md_streams.specs.declared.gate.Gate.{Ghosts as Gates}
 use Rattle.md_assembly.specs.States.{is_in_sync, is_in_sync_as}
 use Rattle.md_assembly.proofs.Indices.{got_same, got_within}
 use Rattle.md_kept_members.specs.View.{MemberView}
@@ -31,10 +31,11 @@ use Rattle.md_array.proofs.Worlds.SectorCopied.{in_sync_as}
 use Rattle.md_check.specs.declared.lent.Missed.{Missed}
 use Rattle.md_check.specs.declared.order.Order.{Order}
 use Rattle.md_check.specs.declared.reader.Reader.{Reader}
-use Rattle.md_check.specs.declared.found.Comparison.{Comparison}
-use Rattle.md_check.specs.declared.found.Pair.{Pair}
+use Rattle.md_collect.specs.declared.found.Comparison.{Comparison}
+use Rattle.md_collect.specs.declared.found.Pair.{Pair}
 use Rattle.md_check.specs.Checking.{AreBetween, Checks, ComparesMembers, FailsChecking, FindsMismatches, FindsOfPairs, IsToldOfMembers, UsesInSync}
-use Rattle.md_check.specs.Differences.{AreCompared, AreDifferent, DifferIn, IsEmpty, IsSized}
+use Rattle.md_check.specs.Differences.{AreCompared, AreDifferent, DifferIn, IsEmpty}
+use Rattle.md_collect.specs.Found.{IsSized}
 use Rattle.md_check.specs.Mismatches.{Mismatches, MismatchesBetween, Shows}
 use Rattle.md_check.specs.Pairs.{pair_names, pairs_in_sync}
 use Rattle.md_check.specs.Plans.{AreOrders, IsReaderOf}

@@ -5,7 +5,7 @@ use Rattle.md_badblocks.specs.declared.run.Run.{Run}
 use Rattle.md_badblocks.specs.Runs.{IsBad}
 use Rattle.md_bitmap.specs.Chunks.{InChunk}
 use Rattle.md_bitmap.specs.declared.chunks.Chunks.{Chunks}
-use Rattle.md_collect.specs.declared.workers.gate.Gate.{Ghosts}
+use Rattle.md_streams.specs.declared.gate.Gate.{Ghosts}
 use Rattle.md_collect.specs.Workers.Gates.{IsTold}
 use Rattle.md_device.specs.declared.device.Device.{Ghosts as Devices}
 use Rattle.md_check.specs.declared.reader.Reader.{Reader}

@@ -5,8 +5,8 @@ use Rattle.std.specs.List.{All}
 use Rattle.md_bitmap.specs.declared.chunks.Chunks.{Chunks}
 use Rattle.md_bitmap.specs.Chunks.{InChunk}
 use Rattle.md_bitmap.specs.Marks.{Bitmap, is_set}
-use Rattle.md_check.specs.declared.found.Comparison.{Comparison}
-use Rattle.md_check.specs.declared.found.Pair.{Pair}
+use Rattle.md_collect.specs.declared.found.Comparison.{Comparison}
+use Rattle.md_collect.specs.declared.found.Pair.{Pair}
 
 -- `Shown k s bytes`: member k shows these bytes in sector s of the array
 module _ (Shown : ℕ → ℕ → List ℕ → Type 0) where
@@ -42,15 +42,6 @@ module _ (Differ : ℕ → Type 0) where
   pub record AddsDifferent (chunks : Chunks) (from end : ℕ) (old new : Bitmap) : Type 0 where
     pub chunks_kept : new.chunks ≡ old.chunks
     pub bits : (c : ℕ) → (is_set new.bytes c ≡ true) ↔ ((is_set old.bytes c ≡ true) ⊎ DifferWithin chunks from end c)
-
--- the pair's set is one of these chunks
-abbrev pub IsPairSized : Chunks → Pair → Type 0
-IsPairSized chunks pair = pair.chunks.chunks ≡ div_ceil chunks.size chunks.sectors
-
--- each set is one of these chunks
-pub record IsSized (chunks : Chunks) (found : Comparison) : Type 0 where
-  pub sized : found.chunks.chunks ≡ div_ceil chunks.size chunks.sectors
-  pub pairs_sized : All (IsPairSized chunks) found.pairs.items
 
 -- the set has no chunk
 abbrev pub IsEmptySet : Bitmap → Type 0

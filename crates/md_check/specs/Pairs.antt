@@ -4,7 +4,7 @@ use Rattle.std.specs.List.{flat_map, range_with_len}
 use Rattle.md_assembly.specs.States.{is_in_sync}
 use Rattle.md_kept_members.specs.View.{MemberView}
 use Rattle.md_state.specs.View.{ArrayView}
-use Rattle.md_check.specs.declared.found.Pair.{Pair}
+use Rattle.md_collect.specs.declared.found.Pair.{Pair}
 
 -- there is a member, and it is in sync
 abbrev pub is_one_in_sync : Option MemberView → Bool

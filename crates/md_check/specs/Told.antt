@@ -2,7 +2,7 @@
 use Rattle.std.specs.Prelude.{◌≡◌, ℕ, List, Some}
 use Rattle.md_badblocks.specs.declared.run.Run.{Run}
 use Rattle.md_bitmap.specs.declared.chunks.Chunks.{Chunks}
-use Rattle.md_collect.specs.declared.workers.gate.Gate.{Ghosts}
+use Rattle.md_streams.specs.declared.gate.Gate.{Ghosts}
 use Rattle.md_collect.specs.Workers.Gates.{IsTold}
 use Rattle.md_check.specs.declared.reader.Reader.{Reader}
 use Rattle.md_check.specs.Readings.{IsToRead}

@@ -4,18 +4,19 @@ ghost use Rattle.md_state.specs.Steps.MakeClean.{IsIdle};
 ghost use Rattle.md_state.specs.Members.{IsAlone};
 ghost use Rattle.md_array.specs.Consistency.{IsConsistent};
 ghost use Rattle.md_check.specs.Checking.{Checks, ComparesMembers, FindsOfPairs, IsToldOfMembers, RefusesCheck};
-ghost use Rattle.md_check.specs.Differences.{IsEmpty, IsSized};
+ghost use Rattle.md_check.specs.Differences.{IsEmpty};
+ghost use Rattle.md_collect.specs.Found.{IsSized};
 
 use crate::fault::CheckFault;
-use crate::found::Comparison;
 use crate::lent::{WINDOW, check_lent};
 use crate::order::orders_for;
 use crate::pairs::pairs_in_sync;
 use crate::readers::{leave_readers, readers_of};
 use md_array::Mirror;
 use md_bitmap::Marks;
-use md_collect::Gate;
+use md_collect::Comparison;
 use md_device::Device;
+use md_streams::Gate;
 use std::alloc::Global;
 use std::thread::Threads;
 

@@ -3,14 +3,15 @@ ghost use Rattle.std.specs.Prelude.{◌≡◌, ◌+◌, ◌-◌, ◌*◌, ◌<�
 ghost use Rattle.std.specs.List.{All};
 ghost use Rattle.md_device.specs.Splice.{part};
 ghost use Rattle.md_badblocks.specs.Runs.{IsBad};
-ghost use Rattle.md_check.specs.Differences.{AddsCompared, AddsToPair, AddsToPairs, DifferBetween, DifferIn, IsPairSized, IsSized};
+ghost use Rattle.md_check.specs.Differences.{AddsCompared, AddsToPair, AddsToPairs, DifferBetween, DifferIn};
+ghost use Rattle.md_collect.specs.Found.{IsPairSized, IsSized};
 ghost use Rattle.md_check.specs.Readers.{ReaderShows, in_window, shown_of};
 ghost use Rattle.md_check.specs.Showing.{DifferAt};
 
 use crate::alike::are_alike;
-use crate::found::{Comparison, Pair};
 use crate::reader::Reader;
 use md_bitmap::Chunks;
+use md_collect::{Comparison, Pair};
 
 impl<D> Reader<D> {
     // Whether the member is in sync and does not list the sector.

@@ -1,20 +1,21 @@
 // The check of devices that are out of their mirror.
 ghost use Rattle.std.specs.Prelude.{◌≡◌, ◌*◌, ◌<◌, ◌≤◌, MatchOption, IfErr, OnOk, ℕ, length, min, None, slice_index_or, Some};
 ghost use Rattle.std.specs.List.{All};
-ghost use Rattle.md_check.specs.Differences.{AreCompared, IsEmpty, IsSized, KeepsPairs};
+ghost use Rattle.md_check.specs.Differences.{AreCompared, IsEmpty, KeepsPairs};
+ghost use Rattle.md_collect.specs.Found.{IsSized};
 ghost use Rattle.md_check.specs.Readings.{MissesIn};
 ghost use Rattle.md_check.specs.Readers.{AreReadersHonest, AreReadersRead, HaveNotFailed, HasDataOnDevice, ReaderShows, on_device};
 ghost use Rattle.md_check.specs.Told.{IsToldOfReader};
 
 use crate::alike::first_read;
 use crate::compare::compare_window;
-use crate::found::Comparison;
 use crate::reader::Reader;
 use crate::turn::{first_turn, turn};
 use crate::window::Window;
 use md_bitmap::Chunks;
-use md_collect::Gate;
+use md_collect::Comparison;
 use md_device::Device;
+use md_streams::Gate;
 use std::mem;
 use std::thread::Threads;
 
@@ -22,7 +23,7 @@ use std::thread::Threads;
 pub(crate) const WINDOW: u64 = 4096;
 
 /// A chunk of a member that could not be read.
-#[derive(Clone, Copy, Debug, PartialEq, Eq)]
+#[derive(Clone, Copy)]
 pub(crate) struct Missed {
     pub(crate) member: usize,
     pub(crate) chunk: u32,

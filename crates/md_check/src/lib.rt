@@ -13,7 +13,6 @@ mod alike;
 mod check;
 mod compare;
 mod fault;
-mod found;
 mod lent;
 mod listed;
 mod order;
@@ -26,5 +25,3 @@ mod work;
 
 pub use check::{check_array, compare_members};
 pub use fault::CheckFault;
-pub use found::{Comparison, Pair};
-pub use md_collect::Gate;

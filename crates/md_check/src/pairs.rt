@@ -1,12 +1,13 @@
 // Each two members in sync.
 ghost use Rattle.std.specs.Prelude.{◌≡◌, ◌<◌, ◌&&◌, ◌++◌, IfOk, OnOk, length, nat_lt};
 ghost use Rattle.std.specs.List.{All};
-ghost use Rattle.md_check.specs.Differences.{IsEmptySet, IsPairSized};
+ghost use Rattle.md_check.specs.Differences.{IsEmptySet};
+ghost use Rattle.md_collect.specs.Found.{IsPairSized};
 ghost use Rattle.md_check.specs.Pairs.{are_in_sync, pair_names, pairs_in_sync, pairs_with};
 
-use crate::found::Pair;
 use md_array::Mirror;
 use md_bitmap::Marks;
+use md_collect::Pair;
 use md_device::Device;
 use std::alloc::{AllocError, Global};
 

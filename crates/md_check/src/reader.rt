@@ -20,3 +20,13 @@ pub(crate) struct Reader<D> {
     /// The chunk that could not be read.
     pub(crate) missed: Option<u32>,
 }
+
+/// A member in sync, whose data are read on its device.
+#[derive(Drop)]
+pub(crate) struct MemberData<'a> {
+    pub(crate) role: u8,
+    /// The sector of the device at which the data start.
+    pub(crate) offset: u64,
+    /// The sectors of the array that the member lists.
+    pub(crate) listed: &'a BadSet,
+}

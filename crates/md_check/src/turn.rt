@@ -9,8 +9,8 @@ use crate::reader::Reader;
 use crate::window::Window;
 use crate::work::{begin, work};
 use md_bitmap::Chunks;
-use md_collect::Gate;
 use md_device::Device;
+use md_streams::Gate;
 use std::thread;
 use std::thread::Threads;
 

@@ -10,12 +10,12 @@ ghost use Rattle.md_check.specs.Readings.{FailsUnlisted, HasLed, HasReadSectors,
 ghost use Rattle.md_check.specs.Readers.{HasDataOnDevice, IsUsed};
 ghost use Rattle.md_check.specs.Told.{IsToldOfReader, IsToldOfSectors};
 
-use crate::reader::Reader;
+use crate::reader::{MemberData, Reader};
 use crate::window::{Part, Window};
 use md_badblocks::BadSet;
 use md_bitmap::Chunks;
-use md_collect::Gate;
 use md_device::{Device, ReadFault};
+use md_streams::Gate;
 
 // How many sectors are compared at once, 64 KiB: what was just read is then still in the processor's cache.
 const BLOCK: usize = 128 * 512;
@@ -250,46 +250,41 @@ fn read_into<D: Device, G: Gate>(
     ensures there { IfErr result (λ c. FailsUnlisted D.Device reader.old.device reader.new.device reader.old.offset chunks (IsBad reader.old.listed) c) }
     ensures told { OnOk result (IsToldOfSectors G.Gate gate.now role chunks reader.old.listed part.from part.sectors) }
 {
-    read_part(
-        gate,
-        &mut reader.device,
+    let member = MemberData {
         role,
-        reader.offset,
-        &reader.listed,
-        chunks,
-        part,
-        reader.bytes.as_mut_slice(),
-    )
+        offset: reader.offset,
+        listed: &reader.listed,
+    };
+    let buf = reader.bytes.as_mut_slice();
+    read_part(gate, &mut reader.device, &member, chunks, part, buf)
 }
 
 // Reads those of the sectors that are not listed into the front of a buffer. The error is the chunk of a read that failed.
 fn read_part<D: Device, G: Gate>(
     gate: &G,
     device: &mut D,
-    role: u8,
-    offset: u64,
-    listed: &BadSet,
+    member: &MemberData<'_>,
     chunks: Chunks,
     part: Part,
     buf: &mut [u8],
 ) -> Result<(), u32>
     requires inside { part.from + part.sectors ≤ chunks.size }
     requires fits { 512 * part.sectors ≤ length buf.old }
-    requires room { HasRoom (D.content device.old) offset chunks }
+    requires room { HasRoom (D.content device.old) member.now.offset chunks }
     ensures only_read { OnlyRead D.Device device.old device.new }
     ensures gave { OnOk result (D.honest device.old ≡ true
-        → HasUnlisted (D.content device.old) offset listed.now part.from part.sectors buf.new) }
+        → HasUnlisted (D.content device.old) member.now.offset member.now.listed.now part.from part.sectors buf.new) }
     ensures unfailing { OnOk result (D.failures device.new ≡ D.failures device.old) }
-    ensures missed { IfErr result (λ c. IsToRead chunks listed.now part.from part.sectors c) }
+    ensures missed { IfErr result (λ c. IsToRead chunks member.now.listed.now part.from part.sectors c) }
     ensures failed { OnErr result (CountsFailure D.Device device.old device.new) }
-    ensures there { IfErr result (λ c. FailsUnlisted D.Device device.old device.new offset chunks (IsBad listed.now) c) }
-    ensures told { OnOk result (IsToldOfSectors G.Gate gate.now role chunks listed.now part.from part.sectors) }
+    ensures there { IfErr result (λ c. FailsUnlisted D.Device device.old device.new member.now.offset chunks (IsBad member.now.listed.now) c) }
+    ensures told { OnOk result (IsToldOfSectors G.Gate gate.now member.now.role chunks member.now.listed.now part.from part.sectors) }
 {
     let mut done = 0;
     while done < part.sectors {
         let sector = part.from + done;
         let left = &mut buf[512 * done as usize..512 * part.sectors as usize];
-        let passed = read_front(gate, device, role, offset, listed, chunks, sector, left)?;
+        let passed = read_front(gate, device, member, chunks, sector, left)?;
         done += passed;
     }
     Ok(())
@@ -300,36 +295,39 @@ fn read_part<D: Device, G: Gate>(
 fn read_front<D: Device, G: Gate>(
     gate: &G,
     device: &mut D,
-    role: u8,
-    offset: u64,
-    listed: &BadSet,
+    member: &MemberData<'_>,
     chunks: Chunks,
     sector: u64,
     buf: &mut [u8],
 ) -> Result<u64, u32>
     requires some { 512 ≤ length buf.old }
     requires inside { sector + length buf.old / 512 ≤ chunks.size }
-    requires room { HasRoom (D.content device.old) offset chunks }
+    requires room { HasRoom (D.content device.old) member.now.offset chunks }
     ensures only_read { OnlyRead D.Device device.old device.new }
     ensures passed { IfOk result (λ n. (0 < n) × (n ≤ length buf.old / 512)) }
     ensures gave { IfOk result (λ n. D.honest device.old ≡ true
-        → HasUnlisted (D.content device.old) offset listed.now sector n buf.new) }
+        → HasUnlisted (D.content device.old) member.now.offset member.now.listed.now sector n buf.new) }
     ensures unfailing { OnOk result (D.failures device.new ≡ D.failures device.old) }
-    ensures missed { IfErr result (λ c. IsToRead chunks listed.now sector 1 c) }
+    ensures missed { IfErr result (λ c. IsToRead chunks member.now.listed.now sector 1 c) }
     ensures failed { OnErr result (CountsFailure D.Device device.old device.new) }
-    ensures there { IfErr result (λ c. FailsUnlisted D.Device device.old device.new offset chunks (IsBad listed.now) c) }
-    ensures told { IfOk result (λ n. IsToldOfSectors G.Gate gate.now role chunks listed.now sector n) }
+    ensures there { IfErr result (λ c. FailsUnlisted D.Device device.old device.new member.now.offset chunks (IsBad member.now.listed.now) c) }
+    ensures told { IfOk result (λ n. IsToldOfSectors G.Gate gate.now member.now.role chunks member.now.listed.now sector n) }
 {
     let chunk = chunks.chunk_of(sector);
     let (start, sectors) = chunks.range(chunk);
     let most = (start + sectors - sector).min(buf.len() as u64 / 512);
-    let run = clear_run(listed, sector, most);
+    let run = clear_run(member.listed, sector, most);
     if run == 0 {
         return Ok(1);
     }
-    gate.before_read(role, chunk);
-    let answer = read_run(device, offset, sector, &mut buf[..512 * run as usize]);
-    gate.after_read(role, chunk);
+    gate.before_read(member.role, chunk);
+    let answer = read_run(
+        device,
+        member.offset,
+        sector,
+        &mut buf[..512 * run as usize],
+    );
+    gate.after_read(member.role, chunk);
     match answer {
         Ok(()) => Ok(run),
         Err(_) => Err(chunk),

@@ -3,8 +3,8 @@ use Rattle.md_device.specs.declared.device.Device.{Ghosts as DeviceGhosts}
 use Rattle.std.proofs.Common.{◌≡◌, ℕ, List, Option, None, Result, Err, refl, subst}
 use Rattle.std.specs.Prelude.{MatchResult}
 use Rattle.clap.specs.Words.{Text}
-use Rattle.md_commands.specs.declared.source.Source.{Ghosts as SourceGhosts}
-use Rattle.md_examine.specs.declared.sink.Sink.{Ghosts as SinkGhosts}
+use Rattle.md_streams.specs.declared.source.Source.{Ghosts as SourceGhosts}
+use Rattle.md_streams.specs.declared.sink.Sink.{Ghosts as SinkGhosts}
 use Rattle.md_images.specs.declared.images.Images.{Ghosts as ImagesGhosts}
 use Rattle.md_words.specs.Asks.{Ask, array_ask, ask_of, image_ask, scan_form}
 use Rattle.md_words.specs.declared.array_command.ArrayCommand.{ArrayCommand}
@@ -12,8 +12,8 @@ use Rattle.md_words.specs.declared.array_command.ArrayCommand.TheVariants as arr
 use Rattle.md_words.specs.declared.command.Command.{Command}
 use Rattle.md_words.specs.declared.image_command.ImageCommand.{ImageCommand}
 use Rattle.md_words.specs.declared.image_command.ImageCommand.TheVariants as image
-use Rattle.md_commands.specs.declared.fault.CommandFault.{CommandFault}
-use Rattle.md_messages.specs.declared.asker.Asker.{Ghosts as AskerGhosts}
+use Rattle.md_refusals.specs.declared.fault.CommandFault.{CommandFault}
+use Rattle.md_streams.specs.declared.asker.Asker.{Ghosts as AskerGhosts}
 use Rattle.md_messages.specs.declared.notices.Notices.{Notices}
 use Rattle.md_cli.specs.Growing.{chunk_in_memory}
 use Rattle.md_cli.specs.Lacking.{Maps}

@@ -1,9 +1,9 @@
 -- What was put out, and passed on, where a command is done.
 use Rattle.std.proofs.Common.{◌≡◌, Bool, List, ℕ, Option, Result, Ok, Err, IfOk, subst, sym}
 use Rattle.std.specs.Prelude.{◌≢◌}
-use Rattle.md_examine.specs.declared.sink.Sink.{Ghosts}
-use Rattle.md_commands.specs.Output.{ShowsText}
-use Rattle.md_commands.specs.declared.fault.CommandFault.{CommandFault}
+use Rattle.md_streams.specs.declared.sink.Sink.{Ghosts}
+use Rattle.md_refusals.specs.Output.{ShowsText}
+use Rattle.md_refusals.specs.declared.fault.CommandFault.{CommandFault}
 use Rattle.md_cli.specs.Refusing.{ShowsIfRefused}
 use Rattle.md_cli.specs.Running.{status_of}
 

@@ -1,6 +1,6 @@
 -- Whether a command goes on.
 use Rattle.std.proofs.Common.{Err, Ok, Result, inl}
-use Rattle.md_commands.specs.declared.fault.CommandFault.{CommandFault}
+use Rattle.md_refusals.specs.declared.fault.CommandFault.{CommandFault}
 use Rattle.md_messages.specs.Question.{Question}
 use Rattle.md_messages.specs.declared.notices.Notices.{Notices}
 use Rattle.md_state.specs.View.{ArrayView}

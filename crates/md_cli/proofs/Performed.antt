@@ -12,16 +12,16 @@ use Rattle.md_commands.proofs.RebuildCounts.{done_rebuild, rebuilds_as_many}
 use Rattle.md_commands.proofs.SalvageCounts.{done_salvage, salvages_as_many}
 use Rattle.md_read_commands.proofs.ReadCounts.{done_read, done_readonly, fills_as_many, reads_as_many, reads_readonly_as_many}
 use Rattle.md_serve_commands.proofs.ServeCounts.{serves_as_many}
-use Rattle.md_commands.specs.declared.source.Source.{Ghosts as SourceGhosts}
+use Rattle.md_streams.specs.declared.source.Source.{Ghosts as SourceGhosts}
 use Rattle.md_commands.specs.Adding.{KeepsDevice}
 use Rattle.md_commands.specs.Removing.{HandsBack}
-use Rattle.md_examine.specs.declared.sink.Sink.{Ghosts as SinkGhosts}
+use Rattle.md_streams.specs.declared.sink.Sink.{Ghosts as SinkGhosts}
 use Rattle.md_state.specs.View.{Disk, disk_of}
 use Rattle.md_images.specs.Taking.{Text}
 use Rattle.md_words.specs.declared.form.CheckForm.TheVariants as check_form
 use Rattle.md_words.specs.declared.loss.Loss.TheVariants as loss
 use Rattle.md_words.specs.Asks.{Ask, device_to_add, leaving_of, examines, examines_bitmap, examines_badblocks, scans, creates, grows, assembles, details, plans, reads, serves, serves_writable, checks, writes, resyncs, stops, fails, removes, adds, re_adds, rebuilds}
-use Rattle.md_commands.specs.declared.fault.CommandFault.{CommandFault}
+use Rattle.md_refusals.specs.declared.fault.CommandFault.{CommandFault}
 use Rattle.md_cli.specs.Opened.{OpenedView, count, moves_device, beside_place, with_beside}
 use Rattle.md_cli.specs.Performing.{Performs, PerformsRead, PutsRest, rebuilt_told, rest_from, salvaged_told, sectors_asked}
 use Rattle.md_cli.specs.Streams.{Streams}

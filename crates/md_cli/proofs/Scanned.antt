@@ -2,11 +2,11 @@
 use Rattle.std.proofs.Common.{◌≡◌, ◌∙◌, ℕ, Bool, true, false, if◌then◌else◌, List, Result, Ok, Err, inl, inr, sym}
 use Rattle.md_device.specs.declared.device.Device.{Ghosts as DeviceGhosts}
 use Rattle.md_images.specs.declared.images.Images.{Ghosts as ImagesGhosts}
-use Rattle.md_examine.specs.declared.sink.Sink.{Ghosts}
-use Rattle.md_commands.specs.Output.{ShowsText}
+use Rattle.md_streams.specs.declared.sink.Sink.{Ghosts}
+use Rattle.md_refusals.specs.Output.{ShowsText}
 use Rattle.md_cli.specs.Scanning.{ScansImages, is_complete, scan_status}
 use Rattle.md_cli.specs.declared.scanning.ScanOptions.{ScanOptions}
-use Rattle.md_commands.specs.declared.fault.CommandFault.{CommandFault}
+use Rattle.md_refusals.specs.declared.fault.CommandFault.{CommandFault}
 use Rattle.md_examine_commands.specs.EachImage.{Name}
 use Rattle.md_examine_commands.specs.declared.scan.each_image.Looked.{Looked}
 

@@ -11,9 +11,9 @@ use Rattle.md_read_commands.specs.StandIn.{IsFreeNumber, StandsIn}
 use Rattle.md_read_commands.specs.declared.stand_in.fronted.FrontedDevice.{FrontedDevice}
 use Rattle.md_read_commands.specs.declared.stand_in.put.StandIn.{StandIn}
 use Rattle.md_cli.specs.InMemory.{MakesNoArray, PutsStandIn, RefusesCounted, refusal_of}
-use Rattle.md_commands.specs.declared.data_of_fault.DataOfFault.{DataOfFault}
-use Rattle.md_commands.specs.declared.data_of_fault.DataOfFault.TheVariants as data_of
-use Rattle.md_commands.specs.declared.fault.CommandFault.{CommandFault}
+use Rattle.md_refusals.specs.declared.data_of_fault.DataOfFault.{DataOfFault}
+use Rattle.md_refusals.specs.declared.data_of_fault.DataOfFault.TheVariants as data_of
+use Rattle.md_refusals.specs.declared.fault.CommandFault.{CommandFault}
 
 pub map-remove : {X Y : Type 0} (f : X → Y) (xs : List X) (i : ℕ) → map f (remove xs i) ≡ remove (map f xs) i
 map-remove f xs i =

@@ -7,7 +7,7 @@ use Rattle.md_state.specs.View.{Disk}
 use Rattle.md_array.specs.Open.Refusals.{RefusesOpen}
 use Rattle.md_array.specs.declared.fault.OpenFault.{OpenFault}
 use Rattle.md_array.specs.declared.fault.OpenFault.TheVariants as opening
-use Rattle.md_commands.specs.declared.fault.CommandFault.{CommandFault}
+use Rattle.md_refusals.specs.declared.fault.CommandFault.{CommandFault}
 use Rattle.md_images.specs.declared.access.Access.{Access}
 use Rattle.md_images.specs.declared.access.Access.TheVariants.{Look}
 use Rattle.md_images.specs.declared.images.Images.{Ghosts as ImagesGhosts}

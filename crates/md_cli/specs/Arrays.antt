@@ -1,20 +1,20 @@
 -- What the commands that open a whole array give.
 use Rattle.md_device.specs.declared.device.Device.{Ghosts}
-use Rattle.std.specs.Prelude.{◌≡◌, ◌⊎◌, ◌<◌, ℕ, Bool, true, false, List, [], length, map, Option, is_some, Result, Err}
+use Rattle.std.specs.Prelude.{◌≡◌, ◌⊎◌, ◌<◌, ℕ, Bool, true, false, List, [], length, map, Option, is_some, Result, Ok, Err}
 use Rattle.clap.specs.Words.{Text}
 use Rattle.md_state.specs.View.{ArrayView, Disk, MirrorView, disk_of}
 use Rattle.md_array.specs.Open.Opened.{IsOpenedFrom}
 use Rattle.md_array.specs.Open.Refusals.{RefusesOpen}
 use Rattle.md_array.specs.declared.fault.OpenFault.{OpenFault}
 use Rattle.md_array.specs.declared.fault.OpenFault.TheVariants.{MetadataFault}
-use Rattle.md_commands.specs.Output.{ShowsText}
-use Rattle.md_commands.specs.declared.source.Source.{Ghosts as SourceGhosts}
-use Rattle.md_commands.specs.Faults.{of_images}
-use Rattle.md_commands.specs.declared.fault.CommandFault.{CommandFault}
-use Rattle.md_commands.specs.declared.fault.CommandFault.TheVariants.{Grow, NoMemory, Open}
+use Rattle.md_refusals.specs.Output.{ShowsText}
+use Rattle.md_streams.specs.declared.source.Source.{Ghosts as SourceGhosts}
+use Rattle.md_refusals.specs.Faults.{of_images}
+use Rattle.md_refusals.specs.declared.fault.CommandFault.{CommandFault}
+use Rattle.md_refusals.specs.declared.fault.CommandFault.TheVariants.{Grow, NoMemory, Open}
 use Rattle.md_metadata.specs.declared.bitmap_grow.fault.GrowFault.{GrowFault}
 use Rattle.md_metadata.specs.declared.bitmap_grow.fault.GrowFault.TheVariants as grow_fault
-use Rattle.md_examine.specs.declared.sink.Sink.{Ghosts as SinkGhosts}
+use Rattle.md_streams.specs.declared.sink.Sink.{Ghosts as SinkGhosts}
 use Rattle.md_images.specs.declared.access.Access.{Access}
 use Rattle.md_images.specs.declared.fault.ImagesFault.{ImagesFault}
 use Rattle.md_images.specs.declared.images.Images.{Ghosts as ImagesGhosts}
@@ -180,11 +180,49 @@ module _ {R S A : Type 0} (r : SourceGhosts R) (s : SinkGhosts S) (q : Question 
       LooksAtMirror devices old new result ⊎ LooksAtNothing old new result
       ⊎ LooksWithoutBitmap devices old new result ⊎ LooksWithoutStandIn devices old new result
 
+-- What is done with devices, as contracts see them before and after, and with the output, or with both streams.
+abbrev pub Work : Type 0 → Type 1
+Work S = List Disk → List Disk → S → S → Result (Unit {0}) CommandFault → Type 0
+
+-- Whether a command goes on with these devices: who is asked, and what is noticed, before it and after.
+abbrev pub Naming : Type 0 → Type 1
+Naming A = List Disk → A → A → Notices → Notices → Result (Unit {0}) CommandFault → Type 0
+
+-- the streams and what was noticed after that
+abbrev pub with_asked : {R S A : Type 0} → Told R S A → A → Notices → Told R S A
+with_asked old asker notices = record { streams = record old.streams { asker = asker }; notices = notices }
+
+module _ {R S A : Type 0} (named : Naming A) (Does : Work (Told R S A)) where
+  -- the command goes on, and is done with the devices
+  pub record GoesOnNamed (before after : List Disk) (old new : Told R S A)
+      (result : Result (Unit {0}) CommandFault) : Type 0 where
+    pub asker : A
+    pub notices : Notices
+    pub goes : named before old.streams.asker asker old.notices notices (Ok tt)
+    pub does : Does before after (with_asked old asker notices) new result
+
+  -- it does not, and no device is changed
+  pub record StopsUnnamed (before after : List Disk) (old new : Told R S A)
+      (result : Result (Unit {0}) CommandFault) : Type 0 where
+    pub why : CommandFault
+    pub is : result ≡ Err why
+    pub stays : named before old.streams.asker new.streams.asker old.notices new.notices (Err why)
+    pub same : after ≡ before
+    pub unused : new ≡ with_asked old new.streams.asker new.notices
+
+  abbrev pub ChangesDevices : Work (Told R S A)
+  ChangesDevices before after old new result =
+      GoesOnNamed before after old new result ⊎ StopsUnnamed before after old new result
+
+module _ {R S A : Type 0} (r : SourceGhosts R) (s : SinkGhosts S) (q : Question A) (named : Naming A)
+    (names : List Text) (lacking : Maps) (ask : Ask) (chunk : Option ℕ) where
   -- whether the devices are only looked at
   abbrev pub WorksBy : Bool → List Disk → List Disk → Told R S A → Told R S A → Result (Unit {0}) CommandFault
       → Type 0
-  WorksBy true before after old new result = (after ≡ before) × LooksAtDevices before old new result
-  WorksBy false before after old new result = OpensDevices r s q names lacking ask before after old new result
+  WorksBy true before after old new result =
+      (after ≡ before) × LooksAtDevices r s q names lacking ask chunk before old new result
+  WorksBy false before after old new result =
+      ChangesDevices named (OpensDevices r s q names lacking ask) before after old new result
 
   abbrev pub WorksOn : List Disk → List Disk → Told R S A → Told R S A
       → Result (Unit {0}) CommandFault → Type 0
@@ -193,10 +231,6 @@ module _ {R S A : Type 0} (r : SourceGhosts R) (s : SinkGhosts S) (q : Question 
 -- the image words, and after them the one of the image that is to join the array
 abbrev pub names_with : Ask → List Text → List Text
 names_with ask names = with_last names (device_to_add ask)
-
--- What is done with devices, as contracts see them before and after, and with the output, or with both streams.
-abbrev pub Work : Type 0 → Type 1
-Work S = List Disk → List Disk → S → S → Result (Unit {0}) CommandFault → Type 0
 
 module _ {D : Type 0} (g : Ghosts D) where
   abbrev pub disks : List D → List Disk

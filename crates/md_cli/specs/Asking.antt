@@ -1,12 +1,12 @@
 -- Commands that may be asked first: they are done, or declined.
 use Rattle.std.specs.Prelude.{◌≡◌, ◌⊎◌, false, length, List, Result, Ok, Err}
 use Rattle.clap.specs.Words.{Text}
-use Rattle.md_commands.specs.declared.source.Source.{Ghosts as SourceGhosts}
-use Rattle.md_examine.specs.declared.sink.Sink.{Ghosts as SinkGhosts}
+use Rattle.md_streams.specs.declared.source.Source.{Ghosts as SourceGhosts}
+use Rattle.md_streams.specs.declared.sink.Sink.{Ghosts as SinkGhosts}
 use Rattle.md_words.specs.Asks.{Ask, compares, fills}
-use Rattle.md_commands.specs.declared.fault.CommandFault.{CommandFault}
-use Rattle.md_commands.specs.declared.fault.CommandFault.TheVariants.{Options}
-use Rattle.md_commands.specs.declared.option_fault.OptionFault.TheVariants.{MapOfTarget}
+use Rattle.md_refusals.specs.declared.fault.CommandFault.{CommandFault}
+use Rattle.md_refusals.specs.declared.fault.CommandFault.TheVariants.{Options}
+use Rattle.md_refusals.specs.declared.option_fault.OptionFault.TheVariants.{MapOfTarget}
 use Rattle.md_messages.specs.Question.{Question}
 use Rattle.md_messages.specs.declared.notices.Notices.{Notices}
 use Rattle.md_cli.specs.Lacking.{Maps}
@@ -69,7 +69,7 @@ module _ {R S A : Type 0} (r : SourceGhosts R) (s : SinkGhosts S) (names : List 
     pub to_ready : IsToReady ask lacking before.mirror.array
     pub fault : CommandFault
     pub is : result ≡ Err fault
-    pub fails : FailsToReady before.mirror after.mirror fault
+    pub fails : FailsToReady ask before.mirror after.mirror fault
     pub unused : new ≡ record old { asker = new.asker }
 
   abbrev pub PerformsAndStores : OpenedView → OpenedView → Streams R S A → Streams R S A

@@ -4,8 +4,8 @@ use Rattle.std.specs.Str.{bytes_eq}
 use Rattle.clap.specs.Words.{Text}
 use Rattle.md_format.specs.FirstFault.{check, first_fault}
 use Rattle.md_create.specs.declared.params.CreateParams.{CreateParams}
-use Rattle.md_commands.specs.declared.option_fault.OptionFault.{OptionFault}
-use Rattle.md_commands.specs.declared.option_fault.OptionFault.TheVariants.{BadLevel, BadUuid, BadName, BadCount, BadChunk, BadSize}
+use Rattle.md_refusals.specs.declared.option_fault.OptionFault.{OptionFault}
+use Rattle.md_refusals.specs.declared.option_fault.OptionFault.TheVariants.{BadLevel, BadUuid, BadName, BadCount, BadChunk, BadSize}
 use Rattle.md_words.specs.Asks.{Options}
 use Rattle.md_cli.specs.SetUuid.{set_uuid_of}
 

@@ -6,16 +6,20 @@ use Rattle.md_device.specs.declared.device.Device.{Ghosts as DeviceGhosts}
 use Rattle.md_images.specs.declared.access.Access.TheVariants.{Change}
 use Rattle.md_images.specs.declared.images.Images.{Ghosts as ImagesGhosts}
 use Rattle.md_images.specs.Taking.{image_list}
-use Rattle.md_examine.specs.declared.sink.Sink.{Ghosts as SinkGhosts}
+use Rattle.md_streams.specs.declared.asker.Asker.{Ghosts as AskerGhosts}
+use Rattle.md_streams.specs.declared.sink.Sink.{Ghosts as SinkGhosts}
 use Rattle.md_state.specs.View.{Disk}
 use Rattle.md_metadata.specs.Grow.Growing.{Grows, RefusesToGrow}
 use Rattle.md_metadata.specs.declared.bitmap_grow.fault.GrowFault.{GrowFault}
-use Rattle.md_commands.specs.declared.fault.CommandFault.{CommandFault}
-use Rattle.md_commands.specs.declared.fault.CommandFault.TheVariants as fault
-use Rattle.md_commands.specs.declared.option_fault.OptionFault.TheVariants.{BadBitmap, BadChunk}
+use Rattle.md_refusals.specs.declared.fault.CommandFault.{CommandFault}
+use Rattle.md_refusals.specs.declared.fault.CommandFault.TheVariants as fault
+use Rattle.md_refusals.specs.declared.option_fault.OptionFault.TheVariants.{BadBitmap, BadChunk}
 use Rattle.md_report.specs.AsText.WholeArray.SummaryReport.{summary_text}
-use Rattle.md_cli.specs.Arrays.{ShowsDevices, UsesImages}
+use Rattle.md_words.specs.Asks.{grows}
+use Rattle.md_cli.specs.AllNamed.{ChecksNamed}
+use Rattle.md_cli.specs.Arrays.{ChangesDevices, ShowsDevices, UsesImages, Work}
 use Rattle.md_cli.specs.CreateOptions.{bytes_of_kib}
+use Rattle.md_cli.specs.Streams.{OnlyPutsOut, Told}
 
 -- the bytes of a chunk, where they fit 32 bits
 abbrev pub chunk_or_fault : Option ℕ → Result ℕ CommandFault
@@ -57,19 +61,26 @@ module _ {S : Type 0} (s : SinkGhosts S) (chunk_bytes : ℕ) where
   GrowsOn before after old new result =
       ShowsGrown before after old new result ⊎ RefusesGrown before after old new result
 
-module _ {I D S : Type 0} (i : ImagesGhosts I D) (g : DeviceGhosts D) (s : SinkGhosts S) where
+-- nothing is noticed meanwhile, and nobody is asked
+abbrev pub GrowsTold : {R S A : Type 0} → SinkGhosts S → ℕ → Work (Told R S A)
+GrowsTold s chunk_bytes before after old new result =
+    OnlyPutsOut old new × GrowsOn s chunk_bytes before after old.streams.output new.streams.output result
+
+module _ {I D R S A : Type 0} (i : ImagesGhosts I D) (g : DeviceGhosts D) (s : SinkGhosts S)
+    (asker : AskerGhosts A) where
   -- the options are refused, and nothing is done
-  pub record RefusesKind (why : CommandFault) (before after : I) (old new : S)
+  pub record RefusesKind (why : CommandFault) (before after : I) (old new : Told R S A)
       (result : Result (Unit {0}) CommandFault) : Type 0 where
     pub is : result ≡ Err why
     pub untouched : after ≡ before
     pub unwritten : new ≡ old
 
-  -- What `grow` does with the images that its words name.
-  abbrev pub GrowsArray : Text → ℕ → List Text → I → I → S → S
+  -- What `grow` does with the images that its words name. It is asked first if a member in sync is not among them.
+  abbrev pub GrowsArray : Text → ℕ → List Text → I → I → Told R S A → Told R S A
       → Result (Unit {0}) CommandFault → Type 0
   GrowsArray bitmap kib words before after old new result =
       MatchResult (chunk_asked bitmap kib)
-      (λ chunk_bytes. UsesImages i g (GrowsOn s chunk_bytes) Change (image_list false words)
-      before after old new result)
+      (λ chunk_bytes. UsesImages i g
+      (ChangesDevices (ChecksNamed asker (grows bitmap kib) (Some chunk_bytes)) (GrowsTold s chunk_bytes))
+      Change (image_list false words) before after old new result)
       (λ why. RefusesKind why before after old new result)

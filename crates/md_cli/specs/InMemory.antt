@@ -3,11 +3,11 @@ use Rattle.std.specs.Prelude.{◌≡◌, ◌≢◌, ◌⊎◌, ◌*◌, ◌≤�
 use Rattle.std.specs.List.{insert, remove}
 use Rattle.md_state.specs.View.{Disk, MirrorView}
 use Rattle.md_array.specs.Open.Opened.{IsOpenedFrom}
-use Rattle.md_commands.specs.declared.data_of_fault.DataOfFault.{DataOfFault}
-use Rattle.md_commands.specs.declared.data_of_fault.DataOfFault.TheVariants as data_of
-use Rattle.md_commands.specs.declared.fault.CommandFault.{CommandFault}
-use Rattle.md_commands.specs.declared.fault.CommandFault.TheVariants.{NoMemory, Options}
-use Rattle.md_commands.specs.declared.option_fault.OptionFault.TheVariants.{DataOf}
+use Rattle.md_refusals.specs.declared.data_of_fault.DataOfFault.{DataOfFault}
+use Rattle.md_refusals.specs.declared.data_of_fault.DataOfFault.TheVariants as data_of
+use Rattle.md_refusals.specs.declared.fault.CommandFault.{CommandFault}
+use Rattle.md_refusals.specs.declared.fault.CommandFault.TheVariants.{NoMemory, Options}
+use Rattle.md_refusals.specs.declared.option_fault.OptionFault.TheVariants.{DataOf}
 use Rattle.md_read_commands.specs.Fronted.{in_memory}
 use Rattle.md_read_commands.specs.StandIn.{IsFreeNumber, StandsIn}
 use Rattle.md_read_commands.specs.declared.stand_in.put.StandIn.{StandIn}

@@ -1,3 +1,5 @@
+-- Commands that are asked first where a member in sync is not among the images.
+pub mod AllNamed
 -- What the commands that open a whole array give.
 pub mod Arrays
 -- Commands that may be asked first.

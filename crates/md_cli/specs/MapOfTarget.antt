@@ -2,9 +2,9 @@
 -- come into sync as it stands. Of a spare all is copied.
 use Rattle.std.specs.Prelude.{◌≡◌, ◌⊎◌, ℕ, true, Option, Some, None, Result, Ok, Err, MatchResult}
 use Rattle.md_assembly.specs.States.{is_recovering}
-use Rattle.md_commands.specs.declared.fault.CommandFault.{CommandFault}
-use Rattle.md_commands.specs.declared.fault.CommandFault.TheVariants.{Options}
-use Rattle.md_commands.specs.declared.option_fault.OptionFault.TheVariants.{MapOfTarget}
+use Rattle.md_refusals.specs.declared.fault.CommandFault.{CommandFault}
+use Rattle.md_refusals.specs.declared.fault.CommandFault.TheVariants.{Options}
+use Rattle.md_refusals.specs.declared.option_fault.OptionFault.TheVariants.{MapOfTarget}
 use Rattle.md_kept_members.specs.View.{MemberView}
 use Rattle.md_messages.specs.Question.{Question}
 use Rattle.md_messages.specs.declared.notices.Notices.{Notices}

@@ -1,14 +1,14 @@
 -- What commands do with an opened array.
 use Rattle.std.specs.Prelude.{◌≡◌, ◌⊎◌, ◌<◌, ◌≤◌, ◌+◌, ◌-◌, ◌^◌, ℕ, Bool, true, false, codes, List, [], Option, Some, None, Result, Ok, Err, MatchResult, if◌then◌else◌, min, unwrap_or}
-use Rattle.std.specs.List.{All as Each}
 use Rattle.md_metadata.specs.declared.coming_back.extent_of_rebuild.RebuildExtent.{RebuildExtent}
 use Rattle.md_metadata.specs.declared.coming_back.extent_of_rebuild.RebuildExtent.TheVariants.{All, Marked}
-use Rattle.md_commands.specs.declared.source.Source.{Ghosts as SourceGhosts}
+use Rattle.md_streams.specs.declared.source.Source.{Ghosts as SourceGhosts}
 use Rattle.md_commands.specs.Adding.{AddsDevice, KeepsDevice, RefusesJoining}
 use Rattle.md_commands.specs.Checking.{ChecksMembers, ListsMismatches, RefusesToCheck, RefusesToList}
 use Rattle.md_commands.specs.Failing.{RefusesToFail}
 use Rattle.md_commands.specs.Objects.{checked_line, detail_line, plan_shown, rebuilt_object_line, summary_shown}
-use Rattle.md_commands.specs.Output.{PutsOut, ShowsText}
+use Rattle.md_streams.specs.Putting.{PutsOut}
+use Rattle.md_refusals.specs.Output.{ShowsText}
 use Rattle.md_commands.specs.Planning.{RefusesToPlan, ShowsPlan}
 use Rattle.md_commands.specs.ReAdding.{ReAddsDevice, RefusesToReAdd}
 use Rattle.md_commands.specs.Rebuilding.{RebuildsArray, RebuiltText, RefusesToRebuild, rebuilt_shown}
@@ -17,22 +17,21 @@ use Rattle.md_commands.specs.Removing.{HandsBack, RefusesToRemove, RemovesMember
 use Rattle.md_commands.specs.Resyncing.{RefusesToResync, ResyncsArray}
 use Rattle.md_commands.specs.Stopping.{RefusesToStop, StopsArray, StopsArrayAfter}
 use Rattle.md_commands.specs.Writing.{RefusesToWrite, WritesArray}
-use Rattle.md_commands.specs.declared.fault.CommandFault.{CommandFault}
-use Rattle.md_commands.specs.declared.fault.CommandFault.TheVariants.{NoMemory, OutputFault, Read}
+use Rattle.md_refusals.specs.declared.fault.CommandFault.{CommandFault}
+use Rattle.md_refusals.specs.declared.fault.CommandFault.TheVariants.{NoMemory, OutputFault, Read}
 use Rattle.md_read.specs.declared.fault.UnreadFault.{UnreadFault}
 use Rattle.md_read_commands.specs.Filling.{IsFirstGap, ReadsFilled, has_put_all}
-use Rattle.md_read_commands.specs.Gaps.{HasBothGaps, HasNoGaps, no_gaps}
+use Rattle.md_streams.specs.Gaps.{HasBothGaps, HasNoGaps, no_gaps}
 use Rattle.md_read_commands.specs.Reading.{ReadsArray, ReadsReadonly, RefusesReadonly, RefusesToRead}
 use Rattle.md_read_commands.specs.Serving.{ServesArray}
 use Rattle.md_serve_commands.specs.Writable.{ServesWritable}
-use Rattle.md_examine.specs.declared.sink.Sink.{Ghosts as SinkGhosts}
+use Rattle.md_streams.specs.declared.sink.Sink.{Ghosts as SinkGhosts}
 use Rattle.md_images.specs.Taking.{Text}
 use Rattle.md_report.specs.AsText.CheckReport.{list_text}
 use Rattle.md_report.specs.AsText.WholeArray.DetailReport.{detail_text}
 use Rattle.md_report.specs.AsText.WholeArray.SummaryReport.{summary_text}
 use Rattle.md_report.specs.AsText.WholeArray.VerboseReport.{verbose_text}
-use Rattle.md_badblocks.specs.declared.run.Run.{Run}
-use Rattle.md_read_commands.specs.declared.gaps.Gaps.{Gaps}
+use Rattle.md_streams.specs.declared.gaps.Gaps.{Gaps}
 use Rattle.md_state.specs.Rests.{Rests}
 use Rattle.md_state.specs.Steps.Fail.{FailsMember}
 use Rattle.md_state.specs.View.{ArrayView, Disk, MirrorView}
@@ -77,10 +76,6 @@ sectors_asked array sector (Some count) = count
 -- where a read goes on of which so many sectors stand already; no array has the last sector of all numbers
 abbrev pub rest_from : ℕ → ℕ → ℕ
 rest_from sector stands = min (sector + stands) (2 ^ 64 - 1)
-
--- runs that end where a set of sectors may
-abbrev pub AreWithin : List Run → Type 0
-AreWithin runs = Each (λ run. run.start + run.len ≤ 2 ^ 54) runs
 
 -- What is answered once all sectors are put out, of which these were not given: the first, if there are some.
 abbrev pub AnswersGaps : Gaps → Result (Unit {0}) CommandFault → Type 0

@@ -1,8 +1,8 @@
 -- Why a command is refused, as a JSON object.
 use Rattle.std.specs.Prelude.{◌≡◌, ◌⊎◌, ℕ, Bool, true, false, List, Option, Result, Ok, Err}
-use Rattle.md_commands.specs.declared.fault.CommandFault.{CommandFault}
-use Rattle.md_commands.specs.Output.{PutsOut}
-use Rattle.md_examine.specs.declared.sink.Sink.{Ghosts}
+use Rattle.md_refusals.specs.declared.fault.CommandFault.{CommandFault}
+use Rattle.md_streams.specs.Putting.{PutsOut}
+use Rattle.md_streams.specs.declared.sink.Sink.{Ghosts}
 use Rattle.md_messages.specs.FaultText.Commands.{fault_text, told_fault}
 use Rattle.md_report.specs.AsJson.Objects.{object_line}
 use Rattle.md_report.specs.AsJson.RefusalObject.{refusal_object}

@@ -5,21 +5,22 @@ use Rattle.clap.specs.Words.{Text}
 use Rattle.md_images.specs.declared.access.Access.TheVariants.{Change}
 use Rattle.md_images.specs.declared.images.Images.{Ghosts as ImagesGhosts}
 use Rattle.md_create.specs.declared.params.CreateParams.{CreateParams}
-use Rattle.md_commands.specs.declared.fault.CommandFault.{CommandFault}
-use Rattle.md_commands.specs.declared.fault.CommandFault.TheVariants as fault
-use Rattle.md_commands.specs.declared.option_fault.OptionFault.{OptionFault}
+use Rattle.md_refusals.specs.declared.fault.CommandFault.{CommandFault}
+use Rattle.md_refusals.specs.declared.fault.CommandFault.TheVariants as fault
+use Rattle.md_refusals.specs.declared.option_fault.OptionFault.{OptionFault}
 use Rattle.md_words.specs.Asks.{Ask, Options, access_of, creates, grows, examines, examines_badblocks, examines_bitmap, is_json, is_readonly, scan_form, scans, tells_by_status}
 use Rattle.md_words.specs.Parsing.{asked, bitmap_word, image_words, words_fault}
-use Rattle.md_commands.specs.declared.source.Source.{Ghosts as SourceGhosts}
-use Rattle.md_examine.specs.declared.sink.Sink.{Ghosts as SinkGhosts}
+use Rattle.md_streams.specs.declared.source.Source.{Ghosts as SourceGhosts}
+use Rattle.md_streams.specs.declared.sink.Sink.{Ghosts as SinkGhosts}
 use Rattle.md_examine_commands.specs.Examining.{ExaminesOne}
 use Rattle.md_examine_commands.specs.EachImage.{Name}
-use Rattle.md_messages.specs.declared.messages.Messages.{Messages}
+use Rattle.md_streams.specs.declared.messages.Messages.{Messages}
 use Rattle.md_messages.specs.Noticed.{nothing}
 use Rattle.md_messages.specs.Question.{question}
 use Rattle.md_messages.specs.Telling.{TellsNoticed}
-use Rattle.md_messages.specs.declared.asker.Asker.{Ghosts as AskerGhosts}
+use Rattle.md_streams.specs.declared.asker.Asker.{Ghosts as AskerGhosts}
 use Rattle.md_messages.specs.declared.notices.Notices.{Notices}
+use Rattle.md_cli.specs.AllNamed.{ChecksNamed}
 use Rattle.md_cli.specs.Arrays.{KeepsImages, UsesImages, WorksOn, names_with}
 use Rattle.md_cli.specs.CreateOptions.{AreParamsOf, create_option_fault}
 use Rattle.md_cli.specs.Creating.{CreatesOn}
@@ -87,7 +88,8 @@ module _ {I D R S A : Type 0} (i : ImagesGhosts I D) (g : DeviceGhosts D) (r : S
       (old new : Told R S A) (result : Result (Unit {0}) CommandFault) : Type 0 where
     pub kept : is_readonly ask ≡ true → KeepsImages i before after
     pub done : UsesImages i g
-        (WorksOn r s (question asker ask (names_with ask words)) (names_with ask words) lacking ask chunk)
+        (WorksOn r s (question asker ask (names_with ask words)) (ChecksNamed asker ask None)
+        (names_with ask words) lacking ask chunk)
         (access_of ask) (image_list false (names_with ask words)) before after old new result
 
   -- the same, where the kind of that bitmap is taken; else nothing is done
@@ -117,8 +119,7 @@ module _ {I D R S A : Type 0} (i : ImagesGhosts I D) (g : DeviceGhosts D) (r : S
   Obeys (creates o) words before after old new result =
       MakesArray i g s asker random o words before after old new result
   Obeys (grows bitmap kib) words before after old new result =
-      OnlyPutsOut old new
-      × GrowsArray i g s bitmap kib words before after old.streams.output new.streams.output result
+      GrowsArray i g s asker bitmap kib words before after old new result
   Obeys (scans json) words before after old new result = ⊥
   Obeys ask words before after old new result =
       OpensWithBitmap i g r s asker lacking bitmap ask words before after old new result

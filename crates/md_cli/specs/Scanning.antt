@@ -3,18 +3,19 @@ use Rattle.std.specs.Prelude.{◌≡◌, ◌⊎◌, ◌==◌, ℕ, Bool, true, f
 use Rattle.std.specs.List.{flat_map, list_any}
 use Rattle.md_device.specs.declared.device.Device.{Ghosts}
 use Rattle.md_images.specs.declared.images.Images.{Ghosts as ImagesGhosts}
-use Rattle.md_commands.specs.Output.{ShowsText}
-use Rattle.md_commands.specs.declared.fault.CommandFault.{CommandFault}
-use Rattle.md_commands.specs.declared.fault.CommandFault.TheVariants.{NoMemory}
-use Rattle.md_examine.specs.declared.sink.Sink.{Ghosts as SinkGhosts}
-use Rattle.md_examine.specs.ShownNames.Shown.{shown}
+use Rattle.md_refusals.specs.Output.{ShowsText}
+use Rattle.md_refusals.specs.declared.fault.CommandFault.{CommandFault}
+use Rattle.md_refusals.specs.declared.fault.CommandFault.TheVariants.{NoMemory}
+use Rattle.md_streams.specs.declared.sink.Sink.{Ghosts as SinkGhosts}
+use Rattle.md_streams.specs.ShownNames.Shown.{shown}
 use Rattle.md_examine_commands.specs.EachImage.{LooksAtAll, LooksInPart, Name}
 use Rattle.md_examine_commands.specs.Examining.{scan_shown}
 use Rattle.md_examine_commands.specs.Unshown.{fault_word, is_told_why, may_be_member}
 use Rattle.md_examine_commands.specs.declared.scan.each_image.Looked.{Looked}
 use Rattle.md_examine_commands.specs.declared.scan.refused.Refused.{Refused}
 use Rattle.md_messages.specs.FaultText.Commands.{refusal_line}
-use Rattle.md_messages.specs.Telling.{PutsTold, has_advice}
+use Rattle.md_streams.specs.Putting.{PutsTold}
+use Rattle.md_streams.specs.Messages.{has_advice}
 use Rattle.md_cli.specs.declared.scanning.ScanOptions.{ScanOptions}
 
 unfoldable pub unshown_line : Refused → List ℕ

@@ -12,11 +12,12 @@ use Rattle.md_resync.specs.declared.fault.ResyncFault.{ResyncFault}
 use Rattle.md_state.specs.Members.{IsInSync, IsMember, is_degraded}
 use Rattle.md_state.specs.Steps.WriteMember.{IsNotDue}
 use Rattle.md_state.specs.View.{ArrayView, MirrorView}
-use Rattle.md_commands.specs.declared.fault.CommandFault.{CommandFault}
-use Rattle.md_commands.specs.declared.fault.CommandFault.TheVariants.{Rebuild, Resync}
+use Rattle.md_refusals.specs.declared.fault.CommandFault.{CommandFault}
+use Rattle.md_refusals.specs.declared.fault.CommandFault.TheVariants.{Rebuild, Resync}
 use Rattle.md_commands.specs.Resyncing.{RefusesNeededResync, ResyncsIfNeeded}
-use Rattle.md_words.specs.Asks.{Ask, rebuilds}
-use Rattle.md_cli.specs.Lacking.{HasRoomToSpare, IsLacking, Maps}
+use Rattle.md_commands.specs.SettingAside.{RefusesSalvageResync, ResyncsToSalvage}
+use Rattle.md_words.specs.Asks.{Ask, loss_of, rebuilds}
+use Rattle.md_cli.specs.Lacking.{HasRoomToSpare, IsLacking, Maps, is_sectors}
 use Rattle.md_cli.specs.Opened.{OpenedView}
 
 -- The list of member k is stored: it is in sync, its image lacks some sector of the array, and its log has room for the list, and some to
@@ -77,32 +78,41 @@ pub record FailsToStoreDue (old new : MirrorView) (fault : CommandFault) : Type 
   pub is : fault ≡ Rebuild (fault_of_part why)
   pub fails : StoringFails IsRecording old new why
 
+-- The array is resynced where it has to be. A salvage (true) sets aside what members do not give, where a read ended that, and does it anew.
+abbrev pub ResyncsFor : Bool → MirrorView → MirrorView → Type 0
+ResyncsFor true old new = ResyncsToSalvage old new
+ResyncsFor false old new = ResyncsIfNeeded old new
+
+abbrev pub RefusesResyncFor : Bool → MirrorView → MirrorView → ResyncFault → Type 0
+RefusesResyncFor true old new why = RefusesSalvageResync old new why
+RefusesResyncFor false old new why = RefusesNeededResync old new why
+
 -- The array is resynced where it has to be, and then superblocks that are due are stored.
-pub record IsReadiedToStore (old new : MirrorView) : Type 0 where
+pub record IsReadiedToStore (ask : Ask) (old new : MirrorView) : Type 0 where
   pub mid : MirrorView
-  pub resynced : ResyncsIfNeeded old mid
+  pub resynced : ResyncsFor (is_sectors (loss_of ask)) old mid
   pub stored : StoresDue mid new
 
 -- This is done where the array is to be made ready for it.
 abbrev pub ReadiesToStore : Ask → Maps → MirrorView → MirrorView → Type 0
 ReadiesToStore ask lacking old new =
-    IsToReady ask lacking old.array × IsReadiedToStore old new
+    IsToReady ask lacking old.array × IsReadiedToStore ask old new
     ⊎ (IsToReady ask lacking old.array → ⊥) × (new ≡ old)
 
 -- the array is not resynced
-pub record FailsToResync (old new : MirrorView) (fault : CommandFault) : Type 0 where
+pub record FailsToResync (ask : Ask) (old new : MirrorView) (fault : CommandFault) : Type 0 where
   pub why : ResyncFault
   pub is : fault ≡ Resync why
-  pub refused : RefusesNeededResync old new why
+  pub refused : RefusesResyncFor (is_sectors (loss_of ask)) old new why
 
 -- the array is resynced, and a superblock is not stored
-pub record FailsAfterResync (old new : MirrorView) (fault : CommandFault) : Type 0 where
+pub record FailsAfterResync (ask : Ask) (old new : MirrorView) (fault : CommandFault) : Type 0 where
   pub mid : MirrorView
-  pub resynced : ResyncsIfNeeded old mid
+  pub resynced : ResyncsFor (is_sectors (loss_of ask)) old mid
   pub fails : FailsToStoreDue mid new fault
 
-abbrev pub FailsToReady : MirrorView → MirrorView → CommandFault → Type 0
-FailsToReady old new fault = FailsToResync old new fault ⊎ FailsAfterResync old new fault
+abbrev pub FailsToReady : Ask → MirrorView → MirrorView → CommandFault → Type 0
+FailsToReady ask old new fault = FailsToResync ask old new fault ⊎ FailsAfterResync ask old new fault
 
 -- Lists are stored then, before the command is done: the array is resynced, and no superblock of a member in sync is due.
 pub record StoresEarly (ask : Ask) (a : ArrayView) : Type 0 where

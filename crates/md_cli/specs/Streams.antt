@@ -1,10 +1,10 @@
 -- The input and the output of a run, who is asked, and what it noticed.
 use Rattle.std.specs.Prelude.{◌≡◌, ℕ, Bool, Option}
-use Rattle.md_messages.specs.declared.asker.Asker.{Ghosts as AskerGhosts}
-use Rattle.md_messages.specs.declared.messages.Audience.{Audience}
-use Rattle.md_messages.specs.declared.messages.Messages.{Messages}
+use Rattle.md_streams.specs.declared.asker.Asker.{Ghosts as AskerGhosts}
+use Rattle.md_streams.specs.declared.messages.Audience.{Audience}
+use Rattle.md_streams.specs.declared.messages.Messages.{Messages}
 use Rattle.md_messages.specs.declared.notices.Notices.{Notices}
-use Rattle.md_read_commands.specs.declared.gaps.Gaps.{Gaps}
+use Rattle.md_streams.specs.declared.gaps.Gaps.{Gaps}
 use Rattle.md_read_commands.specs.declared.stand_in.put.StandIn.{StandIn}
 use Rattle.md_cli.specs.declared.session.Session.{Session}
 

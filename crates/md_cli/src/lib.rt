@@ -21,7 +21,6 @@ mod growing;
 mod lists;
 mod open;
 mod performing;
-mod read_watch;
 mod reading_on;
 mod refusing;
 mod running;
@@ -29,9 +28,7 @@ mod scanning;
 mod session;
 mod show_short;
 
-pub use md_read_commands::FillWatch;
 pub use open::stand_in_of;
-pub use read_watch::ReadWatch;
 pub use refusing::show_why;
 pub use running::run;
 pub use scanning::{ScanOptions, scan};

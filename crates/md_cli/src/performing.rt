@@ -5,7 +5,7 @@ ghost use Rattle.md_words.specs.Asks.{array_ask, compares, device_to_add, fills}
 ghost use Rattle.md_state.specs.View.{disk_of};
 ghost use Rattle.md_commands.specs.Adding.{AddsDevice, KeepsDevice, RefusesJoining};
 ghost use Rattle.md_commands.specs.Objects.{plan_shown, summary_shown};
-ghost use Rattle.md_commands.specs.Output.{ShowsText};
+ghost use Rattle.md_refusals.specs.Output.{ShowsText};
 ghost use Rattle.md_commands.specs.Planning.{RefusesToPlan, ShowsPlan};
 ghost use Rattle.md_commands.specs.ReAdding.{ReAddsDevice, RefusesToReAdd};
 ghost use Rattle.md_commands.specs.Rebuilding.{RebuildsArray, RefusesToRebuild};
@@ -18,25 +18,25 @@ ghost use Rattle.md_cli.specs.Performing.{Performs, PerformsAdd, PerformsCheck, 
 ghost use Rattle.md_cli.specs.Streams.{streams_of};
 
 use crate::open::Opened;
-use crate::read_watch::ReadWatch;
 use crate::reading_on::{end_output, rest_from, with_earlier};
 use crate::session::Session;
 use crate::show_short::show_short;
 use md_array::Mirror;
 use md_commands::{
-    CommandFault, RebuildExtent, Returning, Source, Watch, add_device, add_device_json,
-    check_members, check_members_json, fail_member, list_mismatches, re_add_device,
-    re_add_device_json, rebuild_member, rebuild_member_json, remove_member, resync_array,
-    salvage_member, salvage_member_json, show_detail, show_detail_json, show_plan, show_plan_json,
-    show_verbose_detail, stop_array, stop_array_json, write_array,
+    RebuildExtent, Returning, add_device, add_device_json, check_members, check_members_json,
+    fail_member, list_mismatches, re_add_device, re_add_device_json, rebuild_member,
+    rebuild_member_json, remove_member, resync_array, salvage_member, salvage_member_json,
+    show_detail, show_detail_json, show_plan, show_plan_json, show_verbose_detail, stop_array,
+    stop_array_json, write_array,
 };
 use md_device::Device;
-use md_examine::Sink;
 use md_nbd::ClientWatch;
 use md_read_commands::{
-    FillWatch, has_put_all, read_array, read_array_filled, read_array_readonly, serve_array,
+    has_put_all, read_array, read_array_filled, read_array_readonly, serve_array,
 };
+use md_refusals::CommandFault;
 use md_serve_commands::serve_writable;
+use md_streams::{FillWatch, ReadWatch, Sink, Source, Watch};
 use md_words::{ArrayCommand, CheckForm, DetailForm, Loss, RebuildForm};
 use std::alloc::Global;
 use std::sync::Wait;
@@ -50,7 +50,7 @@ pub(crate) fn perform<
     T: Threads + Wait + Sync,
     R: Source + Drop,
     S: Sink + Drop,
-    W: ReadWatch + Sync,
+    W: ReadWatch + ClientWatch + Sync,
     A: Drop,
 >(
     session: &mut Session<'_, T, R, S, W, A>,
@@ -302,7 +302,7 @@ fn check<
     T: Threads + Sync,
     R: Source + Drop,
     S: Sink + Drop,
-    W: ReadWatch + Sync,
+    W: ReadWatch + ClientWatch + Sync,
     A: Drop,
 >(
     session: &mut Session<'_, T, R, S, W, A>,

@@ -1,12 +1,11 @@
 // What is left of a read that was interrupted.
-ghost use Rattle.std.specs.Prelude.{◌≡◌, IfOk, OnOk, unwrap_or};
-ghost use Rattle.md_read_commands.specs.Gaps.{HasBoth, HasBothGaps, no_gaps};
-ghost use Rattle.md_cli.specs.Performing.{AnswersGaps, AreWithin, EndsOutput, JoinsEarlier, rest_from};
+ghost use Rattle.std.specs.Prelude.{◌≡◌, IfOk, unwrap_or};
+ghost use Rattle.md_streams.specs.Gaps.{HasBothGaps, no_gaps};
+ghost use Rattle.md_cli.specs.Performing.{AnswersGaps, EndsOutput, JoinsEarlier, rest_from};
 
-use md_badblocks::{BadSet, Run};
-use md_commands::CommandFault;
-use md_examine::Sink;
-use md_read_commands::{Gaps, first_gap, has_put_all};
+use md_read_commands::{add_all, first_gap, has_put_all};
+use md_refusals::CommandFault;
+use md_streams::{Gaps, Sink};
 use std::alloc::AllocError;
 
 /// The sector from which a read goes on of which so many stand already.
@@ -61,16 +60,6 @@ fn join_gaps(mut one: Gaps, other: &Gaps) -> Result<Gaps, AllocError>
     add_all(&mut one.missing, other.missing.runs())?;
     add_all(&mut one.others, other.others.runs())?;
     Ok(one)
-}
-
-fn add_all(set: &mut BadSet, more: &[Run]) -> Result<(), AllocError>
-    requires within { AreWithin more.now }
-    ensures { OnOk result (HasBoth set.old more.now set.new) }
-{
-    for run in more {
-        set.add(run.start, run.len)?;
-    }
-    Ok(())
 }
 
 // Says which sector is the first that was not given, if one was not.

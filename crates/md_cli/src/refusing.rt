@@ -1,15 +1,16 @@
 // Why a command is refused, as a JSON object.
 ghost use Rattle.std.specs.Prelude.{◌≡◌, IfOk, MatchResult, option_map};
-ghost use Rattle.md_commands.specs.Output.{FailsOutput, PutsOut};
+ghost use Rattle.md_refusals.specs.Output.{FailsOutput};
+ghost use Rattle.md_streams.specs.Putting.{PutsOut};
 ghost use Rattle.md_report.specs.AsJson.Objects.{object_line};
 ghost use Rattle.md_report.specs.AsJson.RefusalObject.{refusal_object};
 ghost use Rattle.md_words.specs.Asks.{ask_of, is_json};
 ghost use Rattle.md_cli.specs.Refusing.{ShowsIfRefused, ShowsWhy};
 
-use md_commands::CommandFault;
-use md_examine::Sink;
 use md_messages::{advice_words, fault_words, refusal_words};
+use md_refusals::CommandFault;
 use md_report::refusal_json;
+use md_streams::Sink;
 use md_words::Command;
 use std::alloc::Global;
 

@@ -3,27 +3,27 @@ ghost use Rattle.std.specs.Prelude.{◌≡◌, IfOk, None, false, is_err, option
 ghost use Rattle.clap.specs.Words.{FailsBy};
 ghost use Rattle.md_words.specs.Parsing.{asked, bitmap_word, image_words, words_fault};
 ghost use Rattle.md_words.specs.Asks.{ask_of, options_of, scan_form, tells_by_status};
-ghost use Rattle.md_messages.specs.Telling.{PutsTold, TellsNoticed, TellsRefusal, has_advice, perhaps_listed_lines, refused_text, texts};
+ghost use Rattle.md_streams.specs.Putting.{PutsTold};
+ghost use Rattle.md_messages.specs.Telling.{TellsNoticed, TellsRefusal, perhaps_listed_lines, refused_text, texts};
+ghost use Rattle.md_streams.specs.Messages.{has_advice};
 ghost use Rattle.md_cli.specs.Running.{Obeys, MakesArray, RunsRefused, RunsScan, RunsTaken, differs, status_of};
 ghost use Rattle.md_cli.specs.Streams.{told_of};
 
 use crate::create::{create_images, params_of};
 use crate::growing::grow_array;
 use crate::open::with_array;
-use crate::read_watch::ReadWatch;
 use crate::refusing::show_if_refused;
 use crate::scanning::{ScanOptions, scan};
 use crate::session::Session;
 use clap::Error;
-use md_commands::{CommandFault, Source};
-use md_examine::Sink;
 use md_examine_commands::examine_images;
 use md_images::Images;
 use md_messages::{
-    Asker, Audience, Messages, Notices, advise, put_fault_line, put_gap_lines, put_perhaps_listed,
-    put_refused, put_told,
+    Notices, advise, put_fault_line, put_gap_lines, put_perhaps_listed, put_refused, put_told,
 };
-use md_read_commands::Gaps;
+use md_nbd::ClientWatch;
+use md_refusals::CommandFault;
+use md_streams::{Asker, Audience, Gaps, Messages, ReadWatch, Sink, Source};
 use md_words::{ArrayCommand, Command, CreateOptions, Request};
 use std::alloc::Global;
 use std::io::Write;
@@ -67,7 +67,7 @@ pub fn run<
     T: Threads + Wait + Sync,
     R: Source + Drop,
     S: Sink + Drop,
-    W: ReadWatch + Sync,
+    W: ReadWatch + ClientWatch + Sync,
     A: Asker + Drop,
     E: Write + Sink,
 >(
@@ -122,8 +122,7 @@ pub fn run<
         }
         Command::Create(options) => create_array(session, options, images, names, &mut notices),
         Command::Grow { bitmap, chunk } => {
-            let (alloc, out) = (session.alloc, &mut session.out);
-            grow_array(alloc, bitmap, chunk, images, names, out)
+            grow_array(session, bitmap, chunk, images, names, &mut notices)
         }
         Command::Array(command) => {
             with_array(session, command, bitmap, images, names, &mut notices)

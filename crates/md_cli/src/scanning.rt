@@ -1,24 +1,24 @@
 // Of which arrays images are members.
 ghost use Rattle.std.specs.Prelude.{◌≡◌, ℕ, List, false, true};
-ghost use Rattle.md_examine.specs.Sink.{PutsOrFails};
-ghost use Rattle.md_messages.specs.Telling.{has_advice};
+ghost use Rattle.md_streams.specs.Sink.{PutsOrFails};
+ghost use Rattle.md_streams.specs.Messages.{has_advice};
 ghost use Rattle.std.specs.List.{list_any};
 ghost use Rattle.md_examine_commands.specs.Unshown.{may_be_member};
 ghost use Rattle.md_cli.specs.Scanning.{ScansImages, ShowsLooked, is_complete, outcome_line, unshown_line, unshown_lines, unshown_text, scan_status};
 
 use crate::running::{DONE, REFUSED};
-use md_commands::CommandFault;
-use md_examine::{Sink, SinkFault, put_name};
 use md_examine_commands::{Looked, Refused, ScanFault, look_at_each, show_scan};
 use md_images::{ImageRefusal, Images};
-use md_messages::{Messages, advise, put_fault_line};
+use md_messages::{advise, put_fault_line};
+use md_refusals::CommandFault;
+use md_streams::{Messages, Sink, SinkFault, put_name};
 use md_words::Command;
 use std::alloc::Global;
 use std::io::Write;
 
 /// How arrays are looked for: whether the report is a JSON object, whether a person named the images, and how much standard error is
 /// told.
-#[derive(Clone, Copy, Debug)]
+#[derive(Clone, Copy)]
 pub struct ScanOptions {
     pub json: bool,
     pub is_named: bool,
@@ -38,7 +38,7 @@ fn is_complete(is_named: bool, looked: &Looked<'_>) -> bool
     !looked.seen.is_empty() && !(is_named && may_be_one_of(looked.refused.as_slice()))
 }
 
-#[tactic(auto, unfolding(crate::specs::Scanning::unshown_line), using(md_examine::proofs::Puts::puts_then))]
+#[tactic(auto, unfolding(crate::specs::Scanning::unshown_line), using(md_streams::proofs::Puts::puts_then))]
 fn put_unshown_line<E: Sink>(err: &mut E, refused: &Refused<'_>) -> Result<(), SinkFault>
     ensures { PutsOrFails E.contents E.failed err.old err.new (unshown_line refused.now) result }
 {

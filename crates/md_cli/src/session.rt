@@ -1,6 +1,7 @@
 // What a run has of the machine.
 use md_badblocks::BadSet;
-use md_read_commands::{Gaps, StandIn};
+use md_read_commands::StandIn;
+use md_streams::Gaps;
 use std::alloc::Global;
 
 /// What each command is given of the machine that it runs on: what starts threads, the memory, the input, the output,

@@ -1,13 +1,14 @@
 // An array in short.
 ghost use Rattle.std.specs.Prelude.{IfOk};
 ghost use Rattle.md_commands.specs.Objects.{summary_shown};
-ghost use Rattle.md_commands.specs.Output.{ShowsText};
+ghost use Rattle.md_refusals.specs.Output.{ShowsText};
 ghost use Rattle.md_messages.specs.Telling.{texts};
 
 use md_array::Mirror;
-use md_commands::{CommandFault, show_summary, show_summary_json};
+use md_commands::{show_summary, show_summary_json};
 use md_device::Device;
-use md_examine::Sink;
+use md_refusals::CommandFault;
+use md_streams::Sink;
 
 /// Puts out an array in one line, or as the JSON object of a command of this name, of whose members these are the images.
 pub(crate) fn show_short<D: Device + Drop, S: Sink>(

@@ -12,3 +12,5 @@ pub mod Lists
 pub mod Targets
 -- What reads members side by side.
 pub mod Workers
+-- What a comparison of members finds.
+pub mod Found

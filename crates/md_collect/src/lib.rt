@@ -1,4 +1,4 @@
-//! What is reported of a rebuild's reads, and the collector that writes it to the target.
+//! What a rebuild's reads report, the collector that writes it to the target, and what a comparison of members finds.
 //!
 //! Start with `Collector`: it takes each chunk of a plan once, from the source that the plan names, and
 //! refuses all else. `read_chunk` makes the report of one read.
@@ -14,6 +14,7 @@
 
 mod chunk_read;
 mod collector;
+mod found;
 pub mod laws;
 mod planned;
 mod refusal;
@@ -22,6 +23,7 @@ mod workers;
 
 pub use chunk_read::{read_chunk, read_chunk_into};
 pub use collector::Collector;
+pub use found::{Comparison, Pair};
 pub use refusal::Refusal;
 pub use report::Report;
-pub use workers::{Board, Gate, Queue, Reports, Share, batch_of, turn};
+pub use workers::{Board, Queue, Reports, Share, batch_of, turn};

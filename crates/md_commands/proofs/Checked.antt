@@ -6,21 +6,26 @@ use Rattle.md_state.specs.View.{ArrayView, MirrorView}
 use Rattle.md_check.specs.declared.fault.CheckFault.{CheckFault}
 use Rattle.md_check.specs.declared.fault.CheckFault.TheVariants as check
 use Rattle.md_check.specs.Checking.{Checks, RefusesCheck}
-use Rattle.md_examine.specs.declared.sink.Sink.{Ghosts}
+use Rattle.md_streams.specs.declared.sink.Sink.{Ghosts}
 use Rattle.md_report.specs.AsText.CheckReport.{check_text}
-use Rattle.md_commands.specs.declared.fault.CommandFault.{CommandFault}
+use Rattle.md_refusals.specs.declared.fault.CommandFault.{CommandFault}
 use Rattle.md_commands.specs.Checking.{ChecksMembers, RefusesToCheck}
-use Rattle.md_commands.specs.Output.{FailsOutput, PutsOut}
+use Rattle.md_refusals.specs.Output.{FailsOutput}
+use Rattle.md_streams.specs.Putting.{PutsOut}
 
 abbrev ChecksOrNot : Result ℕ CheckFault → MirrorView → MirrorView → Type 0
 ChecksOrNot result old new = MatchResult result (Checks old new) (RefusesCheck old new)
 
+-- nor does one that is refused
+pub refused_stays : (fault : CheckFault) (old new : MirrorView) → RefusesCheck old new fault → new.array ≡ old.array
+refused_stays check.Halted old new h = ap (λ (m : MirrorView). m.array) h.unchanged
+refused_stays (check.InFlight n) old new h = ap (λ (m : MirrorView). m.array) h.unchanged
+refused_stays (check.ReadFault j c) old new h = h.rests.array
+refused_stays check.NoMemory old new h = ap (λ (m : MirrorView). m.array) h.unchanged
+
 array_stays : (result : Result ℕ CheckFault) (old new : MirrorView) → ChecksOrNot result old new → new.array ≡ old.array
 array_stays (Ok count) old new h = h.rests.array
-array_stays (Err check.Halted) old new h = ap (λ (m : MirrorView). m.array) h.unchanged
-array_stays (Err (check.InFlight n)) old new h = ap (λ (m : MirrorView). m.array) h.unchanged
-array_stays (Err (check.ReadFault j c)) old new h = h.rests.array
-array_stays (Err check.NoMemory) old new h = ap (λ (m : MirrorView). m.array) h.unchanged
+array_stays (Err fault) old new h = refused_stays fault old new h
 
 -- so each request in flight stays one of the mirror's
 pub pending_stays : (result : Result ℕ CheckFault) (old new : MirrorView) → ChecksOrNot result old new → (p : PendingView) → IsPending old.array p → IsPending new.array p

@@ -36,17 +36,17 @@ use Rattle.md_metadata.specs.Stopping.{IsStopping, RefusesStop, StopsMirror}
 use Rattle.md_check.specs.declared.fault.CheckFault.{CheckFault}
 use Rattle.md_check.specs.declared.fault.CheckFault.TheVariants as check
 use Rattle.md_check.specs.Checking.{RefusesCheck}
-use Rattle.md_check.specs.declared.found.Comparison.{Comparison}
+use Rattle.md_collect.specs.declared.found.Comparison.{Comparison}
 use Rattle.md_resync.specs.declared.fault.ResyncFault.{ResyncFault}
 use Rattle.md_resync.specs.declared.fault.ResyncFault.TheVariants as resync
 use Rattle.md_resync.specs.Resyncing.{GoesUnresynced, HaltsResync, IsOfResync, LosesMember, ReadingFails, RefusesResync, ResyncGoesOn, Resyncs, ResyncsTold}
 use Rattle.md_resync.specs.Telling.{AfterTelling, IsTelling}
 use Rattle.md_write.specs.Progress.{IsOfRequest}
 use Rattle.md_write.specs.Writing.{RefusesWrite, Writes, events_of_write}
-use Rattle.md_examine.specs.declared.sink.Sink.{Ghosts as SinkGhosts}
-use Rattle.md_commands.specs.declared.fault.CommandFault.{CommandFault}
-use Rattle.md_commands.specs.declared.fault.CommandFault.TheVariants.{BadLength, BadMember, Check, Fail, InputFault, NoPieceMemory, OutOfRange, OutputFault, Remove, Resync, Stop, Write}
-use Rattle.md_commands.specs.declared.source.Source.{Ghosts as SourceGhosts}
+use Rattle.md_streams.specs.declared.sink.Sink.{Ghosts as SinkGhosts}
+use Rattle.md_refusals.specs.declared.fault.CommandFault.{CommandFault}
+use Rattle.md_refusals.specs.declared.fault.CommandFault.TheVariants.{BadLength, BadMember, Check, Fail, InputFault, NoPieceMemory, OutOfRange, OutputFault, Remove, Resync, Stop, Write}
+use Rattle.md_streams.specs.declared.source.Source.{Ghosts as SourceGhosts}
 use Rattle.md_commands.specs.Adding.{KeepsDevice}
 use Rattle.md_commands.specs.Checking.{ChecksMembers, ListsMismatches, RefusesToCheck, RefusesToList}
 use Rattle.md_commands.specs.Failing.{RefusesToFail}

@@ -2,11 +2,12 @@
 use Rattle.std.proofs.Common.{ℕ, ◌+◌, ◌*◌, ◌<◌, ◌≤◌, ◌++◌, ◌∙◌, List, [], length, refl, arith}
 use Rattle.std.proofs.lemmas.List.{length-append}
 use Rattle.std.proofs.KnownBytes.{Consumes-kept, Consumes-nil, Consumes-trans}
-use Rattle.md_commands.specs.declared.fault.CommandFault.{CommandFault}
-use Rattle.md_commands.specs.declared.fault.CommandFault.TheVariants.{InputFault, NoPieceMemory}
-use Rattle.md_commands.specs.declared.source.Source.{Ghosts}
-use Rattle.md_commands.specs.ReadingInput.{AppendingFails, FailsAfter, LacksMemoryFor, ReadingInputFails}
-use Rattle.md_commands.specs.Source.{FailsToGive, Gives}
+use Rattle.md_refusals.specs.declared.fault.CommandFault.{CommandFault}
+use Rattle.md_refusals.specs.declared.fault.CommandFault.TheVariants.{InputFault, NoPieceMemory}
+use Rattle.md_streams.specs.declared.source.Source.{Ghosts}
+use Rattle.md_commands.specs.ReadingInput.{AppendingFails, LacksMemoryFor, ReadingInputFails}
+use Rattle.md_streams.specs.FrontFilled.{FailsAfter}
+use Rattle.md_streams.specs.Source.{FailsToGive, Gives}
 
 module _ {I : Type 0} (i : Ghosts I) where
   -- a call failed, before which nothing came

@@ -1,3 +1,4 @@
+pub mod AsideCounts
 pub mod Checked
 pub mod DeviceCounts
 pub mod InputRead
@@ -14,7 +15,7 @@ pub mod Resynced
 pub mod SalvageCounts
 pub mod SalvagePending
 pub mod Salvaged
+pub mod SetAside
 pub mod StoppedAfter
-pub mod Wrapped
 pub mod WriteKeepsChunks
 pub mod Written

@@ -4,13 +4,14 @@ use Rattle.std.specs.Prelude.{MatchResult}
 use Rattle.md_array.specs.Consistency.{IsConsistent}
 use Rattle.md_bitmap.specs.Marks.{count_set}
 use Rattle.md_check.specs.Checking.{ComparesMembers}
-use Rattle.md_check.specs.Differences.{IsSized}
-use Rattle.md_check.specs.declared.found.Comparison.{Comparison}
-use Rattle.md_examine.specs.declared.sink.Sink.{Ghosts}
+use Rattle.md_collect.specs.Found.{IsSized}
+use Rattle.md_collect.specs.declared.found.Comparison.{Comparison}
+use Rattle.md_streams.specs.declared.sink.Sink.{Ghosts}
 use Rattle.md_state.specs.View.{MirrorView}
-use Rattle.md_commands.specs.declared.fault.CommandFault.{CommandFault}
+use Rattle.md_refusals.specs.declared.fault.CommandFault.{CommandFault}
 use Rattle.md_commands.specs.Checking.{ListsMismatches, RefusesToList}
-use Rattle.md_commands.specs.Output.{FailsOutput, PutsOut}
+use Rattle.md_refusals.specs.Output.{FailsOutput}
+use Rattle.md_streams.specs.Putting.{PutsOut}
 
 module _ {S : Type 0} (s : Ghosts S) (old new : MirrorView) (before after : S) where
   pub listed_or_not : (text_of : Comparison → List ℕ) (found : Comparison) → ComparesMembers old new found → (result : Result ℕ CommandFault)

@@ -1,29 +1,15 @@
 -- A piece of an input is taken, part by part.
-use Rattle.std.proofs.Common.{◌≡◌, ◌∙◌, inl, inr, ⊎_elim, ℕ, ◌+◌, ◌<◌, ◌≤◌, Bool, true, false, List, [], ◌++◌, length, take, refl, sym, ap, subst, arith, true≢false}
+use Rattle.std.proofs.Common.{◌≡◌, ◌∙◌, inl, inr, ⊎_elim, ℕ, ◌+◌, ◌<◌, ◌≤◌, Bool, true, false, List, [], ◌++◌, length, take, refl, sym, subst, arith, true≢false}
 use Rattle.std.specs.Prelude.{MatchResult, Result, Ok, Err}
 use Rattle.std.specs.Io.KnownBytes.{IsAtEnd}
-use Rattle.std.proofs.KnownBytes.{Consumes-kept, Consumes-nil, Consumes-trans}
-use Rattle.std.proofs.Math.Seq.{take-append-add}
-use Rattle.std.proofs.lemmas.List.{append-nil, length-append, length-take-le, take-take}
-use Rattle.std.proofs.lemmas.Slice.{take-put_mid}
-use borrow.Rule.Slice.PartMut.{put_mid, post_of}
-use Rattle.md_commands.specs.declared.fault.CommandFault.{CommandFault}
-use Rattle.md_commands.specs.declared.fault.CommandFault.TheVariants.{BadLength, InputFault}
-use Rattle.md_commands.specs.declared.source.Source.{Ghosts}
-use Rattle.md_commands.specs.ReadingInput.{FailsAfter}
-use Rattle.md_commands.specs.Source.{FailsToGive, Gives}
+use Rattle.std.proofs.KnownBytes.{Consumes-nil, Consumes-trans}
+use Rattle.std.proofs.lemmas.List.{append-nil, length-append, length-take-le}
+use Rattle.md_refusals.specs.declared.fault.CommandFault.{CommandFault}
+use Rattle.md_refusals.specs.declared.fault.CommandFault.TheVariants.{BadLength, InputFault}
+use Rattle.md_streams.specs.declared.source.Source.{Ghosts}
+use Rattle.md_streams.specs.FrontFilled.{FailsAfter}
+use Rattle.md_streams.specs.Source.{Gives}
 use Rattle.md_commands.specs.WritingPieces.{FailsToEnd, FailsToTakePiece, HasEnded, TakesPiece}
-
--- the front of a piece, after bytes were put behind it
-pub front_grows : (a n k : ℕ) (xs ys : List ℕ) → a ≤ length xs → n ≤ length ys → take (a + n) (put_mid a k xs ys) ≡ take a xs ++ take n ys
-front_grows a n k xs ys le few =
-    let whole : take (a + length ys) (put_mid a k xs ys) ≡ take a xs ++ ys = take-put_mid a k xs ys (a + length ys) refl le in
-    let len : length (take a xs) ≡ a = length-take-le a xs le in
-    let cut : take (a + n) (put_mid a k xs ys) ≡ take (a + n) (take (a + length ys) (put_mid a k xs ys)) = sym (take-take (a + n) (a + length ys) (put_mid a k xs ys) (omega arith)) in
-    cut ∙ ap (take (a + n)) whole ∙ ap (λ (m : ℕ). take (m + n) (take a xs ++ ys)) (sym len) ∙ take-append-add (take a xs) ys n
-
-pub front_fits : (a n k : ℕ) (xs ys : List ℕ) → a ≤ length xs → n ≤ length ys → a + n ≤ length (put_mid a k xs ys)
-front_fits a n k xs ys le few = omega (arith, length-append (take a xs) (ys ++ post_of a k xs), length-append ys (post_of a k xs), length-take-le a xs le)
 
 module _ {I : Type 0} (i : Ghosts I) where
   pub gives_both : (old mid new : I) (xs ys : List ℕ) → Gives i.remaining i.failed old mid xs → Gives i.remaining i.failed mid new ys → Gives i.remaining i.failed old new (xs ++ ys)
@@ -41,14 +27,6 @@ module _ {I : Type 0} (i : Ghosts I) where
     bytes = bytes ++ fails.bytes;
     few = let few = fails.few in omega (arith, length-append bytes fails.bytes);
     taken = Consumes-trans (i.remaining old) (i.remaining mid) (i.remaining new) bytes fails.bytes given.consumes fails.taken;
-    has_failed = fails.has_failed;
-  }
-
-  pub fails_there : (old mid new : I) (bytes : List ℕ) (long : ℕ) → Gives i.remaining i.failed old mid bytes → FailsToGive i.remaining i.failed mid new → length bytes ≤ long → FailsAfter i long old new
-  fails_there old mid new bytes long given fails fits = record {
-    bytes = bytes;
-    few = fits;
-    taken = Consumes-kept (i.remaining old) (i.remaining mid) (i.remaining new) bytes given.consumes fails.keeps;
     has_failed = fails.has_failed;
   }
 

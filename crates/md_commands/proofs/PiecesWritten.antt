@@ -9,9 +9,9 @@ use Rattle.md_faults.specs.declared.step_fault.BeginFault.TheVariants as begin
 use Rattle.md_state.specs.Steps.Begin.{HasMarked, IsInRange}
 use Rattle.md_state.specs.View.{MirrorView}
 use Rattle.md_write.specs.Writing.{RefusesWrite, Writes}
-use Rattle.md_commands.specs.declared.fault.CommandFault.{CommandFault}
-use Rattle.md_commands.specs.declared.fault.CommandFault.TheVariants.{BadLength, InputFault, Resync, Write}
-use Rattle.md_commands.specs.declared.source.Source.{Ghosts}
+use Rattle.md_refusals.specs.declared.fault.CommandFault.{CommandFault}
+use Rattle.md_refusals.specs.declared.fault.CommandFault.TheVariants.{BadLength, InputFault, Resync, Write}
+use Rattle.md_streams.specs.declared.source.Source.{Ghosts}
 use Rattle.md_commands.specs.WritingPieces.{BeginsPieces, FailsToTakePiece, HasWritten, IsReadyForPieces, RefusesPieces, RefusesReadying, TakesFront, TakesPiece, WritesFront, WritesInPieces, WritesPieces, most_at_once, sectors_at_once}
 use Rattle.md_commands.proofs.PiecesMarked.{marked_more}
 use Rattle.md_commands.proofs.PiecesTaken.{gives_both}

@@ -1,12 +1,13 @@
 -- What the command that plans answers: the plan, and then the output.
 use Rattle.std.proofs.Common.{ℕ, List, Result, Ok, Err, refl, sym, subst}
-use Rattle.md_examine.specs.declared.sink.Sink.{Ghosts}
-use Rattle.md_plan.specs.declared.planner.Planned.{Planned}
+use Rattle.md_streams.specs.declared.sink.Sink.{Ghosts}
+use Rattle.md_cert.specs.declared.planned.Planned.{Planned}
 use Rattle.md_state.specs.View.{ArrayView}
 use Rattle.std.specs.Prelude.{MatchResult}
-use Rattle.md_commands.specs.declared.fault.CommandFault.{CommandFault}
-use Rattle.md_commands.specs.declared.fault.CommandFault.TheVariants.{OutputFault}
-use Rattle.md_commands.specs.Output.{FailsOutput, PutsOut}
+use Rattle.md_refusals.specs.declared.fault.CommandFault.{CommandFault}
+use Rattle.md_refusals.specs.declared.fault.CommandFault.TheVariants.{OutputFault}
+use Rattle.md_refusals.specs.Output.{FailsOutput}
+use Rattle.md_streams.specs.Putting.{PutsOut}
 use Rattle.md_commands.specs.Planning.{IsRebuildPlan, RefusesPlan, RefusesToPlan, ShowsPlan}
 
 module _ {S : Type 0} (s : Ghosts S) (a : ArrayView) (k : ℕ) (before : S) where

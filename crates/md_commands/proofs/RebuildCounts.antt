@@ -22,11 +22,11 @@ use Rattle.md_copy.specs.Passes.Stretches.{AreRecorded, slots_after}
 use Rattle.md_copy.specs.Readying.Admission.{AdmitsAfter, AdmitsFirst, EndsAdmitted, LowersTarget}
 use Rattle.md_copy.specs.Rebuilding.{BeginsRebuild, EndsFilled, EndsReadied, FillsBy, LacksMemoryToRebuild, LacksRoom, LosesSource, LosesTarget, Rebuilds, RefusesRebuild}
 use Rattle.md_copy.specs.Readying.Storing.{HaltsUntilDone, StoresUntilDone, EndsAtOther}
-use Rattle.md_examine.specs.declared.sink.Sink.{Ghosts}
+use Rattle.md_streams.specs.declared.sink.Sink.{Ghosts}
 use Rattle.md_metadata.specs.declared.coming_back.extent_of_rebuild.RebuildExtent.{RebuildExtent}
 use Rattle.md_metadata.specs.declared.coming_back.extent_of_rebuild.RebuildExtent.TheVariants.{All, Marked}
-use Rattle.md_commands.specs.declared.fault.CommandFault.{CommandFault}
-use Rattle.md_commands.specs.declared.fault.CommandFault.TheVariants.{BadMember, OutputFault, Rebuild, Resync, Stop}
+use Rattle.md_refusals.specs.declared.fault.CommandFault.{CommandFault}
+use Rattle.md_refusals.specs.declared.fault.CommandFault.TheVariants.{BadMember, OutputFault, Rebuild, Resync, Stop}
 use Rattle.md_commands.specs.Adding.{KeepsDevice}
 use Rattle.md_metadata.specs.ComingBack.{ComesBack, HandsBackAsWas}
 use Rattle.md_commands.specs.ReAdding.{ComesBackReadied, RebuildsMember, RefusesRebuilding}

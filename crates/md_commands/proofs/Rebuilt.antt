@@ -1,13 +1,14 @@
 -- What the commands that rebuild answer: the parts of it together.
 use Rattle.std.proofs.Common.{ℕ, List, Option, Result, Ok, Err, MatchResult, refl, sym, subst}
 use Rattle.md_copy.specs.declared.rebuilt.Rebuilt.{Rebuilt}
-use Rattle.md_examine.specs.declared.sink.Sink.{Ghosts}
+use Rattle.md_streams.specs.declared.sink.Sink.{Ghosts}
 use Rattle.md_state.specs.View.{ArrayView, Disk, MirrorView}
 use Rattle.md_metadata.specs.declared.coming_back.extent_of_rebuild.RebuildExtent.{RebuildExtent}
-use Rattle.md_commands.specs.declared.fault.CommandFault.{CommandFault}
-use Rattle.md_commands.specs.declared.fault.CommandFault.TheVariants.{ReAdd, Rebuild, Resync, Stop}
+use Rattle.md_refusals.specs.declared.fault.CommandFault.{CommandFault}
+use Rattle.md_refusals.specs.declared.fault.CommandFault.TheVariants.{ReAdd, Rebuild, Resync, Stop}
 use Rattle.md_commands.specs.Failing.{HasMember}
-use Rattle.md_commands.specs.Output.{FailsOutput, PutsOut}
+use Rattle.md_refusals.specs.Output.{FailsOutput}
+use Rattle.md_streams.specs.Putting.{PutsOut}
 use Rattle.md_commands.specs.ReAdding.{ComesBackReadied, RebuildsMember, ReAddsDevice, RefusesRebuilding, RefusesToReAdd}
 use Rattle.md_commands.specs.Rebuilding.{RebuildsArray, RebuildsResynced, RefusesReadied, RefusesToRebuild}
 use Rattle.md_commands.specs.Stopping.{RefusesToStop, StopsAfter, StopsArray, StopsArrayAfter}

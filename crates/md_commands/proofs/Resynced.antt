@@ -1,12 +1,13 @@
 -- The end of the command that resynchronises an array.
 use Rattle.std.proofs.Common.{sym, subst}
 use Rattle.std.specs.Prelude.{MatchResult, Result, Ok, Err}
-use Rattle.md_examine.specs.declared.sink.Sink.{Ghosts}
+use Rattle.md_streams.specs.declared.sink.Sink.{Ghosts}
 use Rattle.md_state.specs.View.{MirrorView}
 use Rattle.md_report.specs.AsText.WholeArray.SummaryReport.{summary_text}
 use Rattle.md_resync.specs.Resyncing.{Resyncs}
-use Rattle.md_commands.specs.declared.fault.CommandFault.{CommandFault}
-use Rattle.md_commands.specs.Output.{FailsOutput, PutsOut}
+use Rattle.md_refusals.specs.declared.fault.CommandFault.{CommandFault}
+use Rattle.md_refusals.specs.Output.{FailsOutput}
+use Rattle.md_streams.specs.Putting.{PutsOut}
 use Rattle.md_commands.specs.Resyncing.{RefusesToResync, ResyncsArray}
 use Rattle.md_commands.specs.Stopping.{StopsAfter}
 

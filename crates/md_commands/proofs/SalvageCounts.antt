@@ -15,11 +15,12 @@ use Rattle.md_copy.specs.Salvaging.Filling.{AreSalvaged, BreaksFilling, EndsSalv
 use Rattle.md_copy.specs.Salvaging.Losing.{EnrolsWithout, EndsWithout, FailsWithout, NotesLost, every_role}
 use Rattle.md_copy.specs.Salvaging.Steps.{EndsSalvageReadied, FailsWhole, FillsBut, RefusesSalvage, Salvages}
 use Rattle.md_copy.specs.Table.Sources.{missing_chunks}
-use Rattle.md_examine.specs.declared.sink.Sink.{Ghosts}
-use Rattle.md_commands.specs.declared.fault.CommandFault.{CommandFault}
-use Rattle.md_commands.specs.declared.fault.CommandFault.TheVariants.{BadMember, OutputFault, Rebuild, Resync, Stop}
+use Rattle.md_streams.specs.declared.sink.Sink.{Ghosts}
+use Rattle.md_refusals.specs.declared.fault.CommandFault.{CommandFault}
+use Rattle.md_refusals.specs.declared.fault.CommandFault.TheVariants.{BadMember, OutputFault, Rebuild, Resync, Stop}
 use Rattle.md_commands.specs.Salvaging.{RefusesToSalvage, SalvagesArray, SalvagesResynced}
-use Rattle.md_commands.proofs.DeviceCounts.{AsMany, fails_after, not_readied, readied, same, stopped_after}
+use Rattle.md_commands.proofs.AsideCounts.{not_readied_to_salvage, readied_to_salvage}
+use Rattle.md_commands.proofs.DeviceCounts.{AsMany, fails_after, same, stopped_after}
 use Rattle.md_commands.proofs.RebuildCounts.{begun, broken_off, gone_on, lacks_in_pass, left, lowered, recorded, settled, stopped_admitted, stopped_at, unrecorded}
 
 -- ---- chunks that are left
@@ -130,7 +131,7 @@ not_salvaged fault k old new h =
 
 -- ---- the command
 salvaged_readied : (k : ℕ) (told : Salvaged) (old new : MirrorView) → SalvagesResynced k told old new → AsMany old new
-salvaged_readied k told old new r = salvaged k told r.ready new r.salvages ∙ readied old r.ready r.readied
+salvaged_readied k told old new r = salvaged k told r.ready new r.salvages ∙ readied_to_salvage old r.ready r.readied
 
 module _ {S : Type 0} (s : Ghosts S) (k : ℕ) (old new : MirrorView) (before after : S) where
   pub done_salvage : (text_of : Salvaged → List ℕ) → SalvagesArray s k old new before after text_of → AsMany old new
@@ -138,8 +139,8 @@ module _ {S : Type 0} (s : Ghosts S) (k : ℕ) (old new : MirrorView) (before af
 
   pub salvages_as_many : (fault : CommandFault) → RefusesToSalvage s k old new before after fault → AsMany old new
   salvages_as_many BadMember h = same old new h.0.unchanged
-  salvages_as_many (Resync fault) h = not_readied fault old new h.refused
-  salvages_as_many (Rebuild fault) h = not_salvaged fault k h.refused.ready new h.refused.refused ∙ readied old h.refused.ready h.refused.readied
+  salvages_as_many (Resync fault) h = not_readied_to_salvage fault old new h.refused
+  salvages_as_many (Rebuild fault) h = not_salvaged fault k h.refused.ready new h.refused.refused ∙ readied_to_salvage old h.refused.ready h.refused.readied
   salvages_as_many (Stop fault) h =
       fails_after (λ mid. (told : Salvaged) × SalvagesResynced k told old mid) old new fault (λ mid r. salvaged_readied k r.0 old mid r.1) h.refused
   salvages_as_many OutputFault h = stopped_after (SalvagesResynced k h.told old) old new (salvaged_readied k h.told old) h.done

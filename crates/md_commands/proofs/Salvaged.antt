@@ -1,12 +1,13 @@
 -- What the command that salvages answers: the parts of it together.
 use Rattle.std.proofs.Common.{ℕ, List, Result, Ok, Err, MatchResult, refl, sym, subst}
 use Rattle.md_copy.specs.declared.salvaging.salvaged.Salvaged.{Salvaged}
-use Rattle.md_examine.specs.declared.sink.Sink.{Ghosts}
+use Rattle.md_streams.specs.declared.sink.Sink.{Ghosts}
 use Rattle.md_state.specs.View.{MirrorView}
-use Rattle.md_commands.specs.declared.fault.CommandFault.{CommandFault}
-use Rattle.md_commands.specs.declared.fault.CommandFault.TheVariants.{Rebuild, Resync, Stop}
+use Rattle.md_refusals.specs.declared.fault.CommandFault.{CommandFault}
+use Rattle.md_refusals.specs.declared.fault.CommandFault.TheVariants.{Rebuild, Resync, Stop}
 use Rattle.md_commands.specs.Failing.{HasMember}
-use Rattle.md_commands.specs.Output.{FailsOutput, PutsOut}
+use Rattle.md_refusals.specs.Output.{FailsOutput}
+use Rattle.md_streams.specs.Putting.{PutsOut}
 use Rattle.md_commands.specs.Salvaging.{RefusesSalvaging, RefusesToSalvage, SalvagesArray, SalvagesResynced}
 use Rattle.md_commands.specs.Stopping.{StopsAfter}
 

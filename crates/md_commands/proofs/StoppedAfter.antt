@@ -1,11 +1,11 @@
 -- The ends of the commands by which members change, and which then stop the array.
 use Rattle.std.proofs.Common.{ℕ, List, refl}
 use Rattle.std.specs.Prelude.{MatchResult, Option, Result, Ok, Err}
-use Rattle.md_examine.specs.declared.sink.Sink.{Ghosts}
+use Rattle.md_streams.specs.declared.sink.Sink.{Ghosts}
 use Rattle.md_state.specs.Steps.Fail.{FailsMember}
 use Rattle.md_state.specs.View.{ArrayView, Disk, MirrorView}
-use Rattle.md_commands.specs.declared.fault.CommandFault.{CommandFault}
-use Rattle.md_commands.specs.declared.fault.CommandFault.TheVariants.{Add, BadMember, Fail, Remove}
+use Rattle.md_refusals.specs.declared.fault.CommandFault.{CommandFault}
+use Rattle.md_refusals.specs.declared.fault.CommandFault.TheVariants.{Add, BadMember, Fail, Remove}
 use Rattle.md_commands.specs.Adding.{AddsDevice, RefusesJoining}
 use Rattle.md_commands.specs.Failing.{RefusesFailing, RefusesToFail}
 use Rattle.md_commands.specs.Removing.{RefusesRemoving, RefusesToRemove, RemovesMember}

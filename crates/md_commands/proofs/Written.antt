@@ -1,13 +1,14 @@
 -- The parts of a write, and its end.
 use Rattle.std.proofs.Common.{◌≡◌, ◌*◌, ◌%◌, ◌<◌, ◌≤◌, inl, inr, List, ℕ, Option, Some, None, refl, sym, subst, arith}
 use Rattle.std.specs.Prelude.{IfOk, MatchResult, Result, Ok, Err}
-use Rattle.md_examine.specs.declared.sink.Sink.{Ghosts as SinkGhosts}
+use Rattle.md_streams.specs.declared.sink.Sink.{Ghosts as SinkGhosts}
 use Rattle.md_state.specs.View.{MirrorView}
 use Rattle.md_report.specs.AsText.WholeArray.SummaryReport.{summary_text}
-use Rattle.md_commands.specs.declared.fault.CommandFault.{CommandFault}
-use Rattle.md_commands.specs.declared.fault.CommandFault.TheVariants.{BadLength, InputFault, NoPieceMemory, OutOfRange, Resync, Write}
-use Rattle.md_commands.specs.declared.source.Source.{Ghosts as SourceGhosts}
-use Rattle.md_commands.specs.Output.{FailsOutput, PutsOut}
+use Rattle.md_refusals.specs.declared.fault.CommandFault.{CommandFault}
+use Rattle.md_refusals.specs.declared.fault.CommandFault.TheVariants.{BadLength, InputFault, NoPieceMemory, OutOfRange, Resync, Write}
+use Rattle.md_streams.specs.declared.source.Source.{Ghosts as SourceGhosts}
+use Rattle.md_refusals.specs.Output.{FailsOutput}
+use Rattle.md_streams.specs.Putting.{PutsOut}
 use Rattle.md_commands.specs.ReadingInput.{IsInput, RefusesInput}
 use Rattle.md_commands.specs.Stopping.{StopsAfter}
 use Rattle.md_commands.specs.ToldLength.{MayBeRead, MayBeTaken, RefusesKnown, known_length}

@@ -2,18 +2,18 @@
 use Rattle.std.specs.Prelude.{◌≡◌, ◌*◌, ◌-◌, ◌^◌, ℕ, true, List, min}
 use Rattle.md_bitmap.specs.Marks.{count_set}
 use Rattle.md_check.specs.Checking.{Checks, ComparesMembers, RefusesCheck}
-use Rattle.md_check.specs.declared.found.Comparison.{Comparison}
-use Rattle.md_examine.specs.declared.sink.Sink.{Ghosts}
+use Rattle.md_collect.specs.declared.found.Comparison.{Comparison}
+use Rattle.md_streams.specs.declared.sink.Sink.{Ghosts}
 use Rattle.md_report.specs.AsText.CheckReport.{check_text}
-use Rattle.md_report.specs.AsText.WholeArray.SummaryReport.{in_sync_members}
+use Rattle.md_notices.specs.Noticing.{in_sync_count}
 use Rattle.md_state.specs.View.{ArrayView, MirrorView}
-use Rattle.md_commands.specs.declared.fault.CommandFault.{CommandFault}
-use Rattle.md_commands.specs.declared.fault.CommandFault.TheVariants.{Check, OutputFault}
-use Rattle.md_commands.specs.Output.{PutsOut}
+use Rattle.md_refusals.specs.declared.fault.CommandFault.{CommandFault}
+use Rattle.md_refusals.specs.declared.fault.CommandFault.TheVariants.{Check, OutputFault}
+use Rattle.md_streams.specs.Putting.{PutsOut}
 
 -- how many sectors of the array those in sync have in all, or the most that a u64 tells
 abbrev pub sectors_to_read : ArrayView → ℕ
-sectors_to_read a = min (in_sync_members a * a.chunks.size) (2 ^ 64 - 1)
+sectors_to_read a = min (in_sync_count a.members * a.chunks.size) (2 ^ 64 - 1)
 
 module _ {S : Type 0} (s : Ghosts S) where
   -- they are compared, and in how many chunks two of them differ is shown

@@ -1,11 +1,11 @@
 -- The command that fails a member.
 use Rattle.std.specs.Prelude.{◌≡◌, ℕ, ◌<◌, ◌≤◌, length}
-use Rattle.md_examine.specs.declared.sink.Sink.{Ghosts}
+use Rattle.md_streams.specs.declared.sink.Sink.{Ghosts}
 use Rattle.md_state.specs.Steps.Fail.{FailsMember, RefusesFail}
 use Rattle.md_state.specs.Trying.{Refuses}
 use Rattle.md_state.specs.View.{ArrayView, MirrorView}
-use Rattle.md_commands.specs.declared.fault.CommandFault.{CommandFault}
-use Rattle.md_commands.specs.declared.fault.CommandFault.TheVariants.{BadMember, Fail}
+use Rattle.md_refusals.specs.declared.fault.CommandFault.{CommandFault}
+use Rattle.md_refusals.specs.declared.fault.CommandFault.TheVariants.{BadMember, Fail}
 use Rattle.md_commands.specs.Stopping.{FailsToStopArray}
 
 -- the array has a member with this index, or it has none

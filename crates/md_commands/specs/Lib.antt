@@ -4,14 +4,8 @@ pub mod Adding
 pub mod Checking
 -- The command that fails a member.
 pub mod Failing
--- What a command answers where images are not opened.
-pub mod Faults
--- What callers see of a reader as a source.
-pub mod Input
 -- What a command puts out as a JSON object.
 pub mod Objects
--- What a command puts out.
-pub mod Output
 -- The command that plans the rebuild of a member.
 pub mod Planning
 -- The command that takes a device back.
@@ -26,8 +20,8 @@ pub mod Removing
 pub mod Resyncing
 -- The command that rebuilds a member, and lists bad sectors, and not their chunks.
 pub mod Salvaging
--- What a source gives.
-pub mod Source
+-- The resync before a salvage.
+pub mod SettingAside
 -- The command that stops an array.
 pub mod Stopping
 -- The length of an input that is told before it is read.

@@ -1,12 +1,12 @@
 -- What a command puts out as a JSON object, with the images of the members.
 use Rattle.std.specs.Prelude.{ℕ, Bool, true, false, List}
-use Rattle.md_check.specs.declared.found.Comparison.{Comparison}
+use Rattle.md_collect.specs.declared.found.Comparison.{Comparison}
 use Rattle.md_report.specs.AsJson.WholeArray.ArrayObjects.{detail_object, summary_object}
 use Rattle.md_report.specs.AsJson.CheckObject.{check_object}
 use Rattle.md_report.specs.AsJson.Objects.{object_line}
 use Rattle.md_report.specs.AsJson.Rebuilds.PlanObject.{plan_object}
 use Rattle.md_copy.specs.declared.rebuilt.Rebuilt.{Rebuilt}
-use Rattle.md_plan.specs.declared.planner.Planned.{Planned}
+use Rattle.md_cert.specs.declared.planned.Planned.{Planned}
 use Rattle.md_report.specs.AsJson.Rebuilds.RebuiltObject.{rebuilt_object}
 use Rattle.md_report.specs.AsText.Rebuilds.RebuiltReport.{planned_text}
 use Rattle.md_report.specs.AsText.WholeArray.SummaryReport.{summary_text}

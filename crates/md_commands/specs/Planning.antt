@@ -7,7 +7,7 @@ use Rattle.md_cert.specs.Assignments.{Least}
 use Rattle.md_cert.specs.Plans.{IsCertified}
 use Rattle.md_cert.specs.Tables.{orphans_of}
 use Rattle.md_cert.specs.Verdicts.{IsVerdict}
-use Rattle.md_plan.specs.declared.planner.Planned.{Planned}
+use Rattle.md_cert.specs.declared.planned.Planned.{Planned}
 use Rattle.md_kept_members.specs.View.{MemberView}
 use Rattle.md_state.specs.View.{ArrayView}
 use Rattle.md_state.specs.Members.{IsMember}
@@ -15,11 +15,11 @@ use Rattle.md_copy.specs.Table.Sources.{IsTableOf}
 use Rattle.md_copy.specs.Table.Targets.{IsTarget}
 use Rattle.md_copy.specs.declared.beginning.fault.RebuildFault.{RebuildFault}
 use Rattle.md_copy.specs.Table.Beginning.{RefusesTable}
-use Rattle.md_examine.specs.declared.sink.Sink.{Ghosts}
-use Rattle.md_commands.specs.declared.fault.CommandFault.{CommandFault}
-use Rattle.md_commands.specs.declared.fault.CommandFault.TheVariants.{BadMember, OutputFault, Rebuild}
+use Rattle.md_streams.specs.declared.sink.Sink.{Ghosts}
+use Rattle.md_refusals.specs.declared.fault.CommandFault.{CommandFault}
+use Rattle.md_refusals.specs.declared.fault.CommandFault.TheVariants.{BadMember, OutputFault, Rebuild}
 use Rattle.md_commands.specs.Failing.{LacksMember}
-use Rattle.md_commands.specs.Output.{PutsOut}
+use Rattle.md_streams.specs.Putting.{PutsOut}
 
 -- A plan of the table of the chunks that the member lacks, in the fewest rounds, with a certificate for them. Whatever the
 -- checker may answer to it is `Yes`.

@@ -3,12 +3,12 @@ use Rattle.std.specs.Prelude.{◌≡◌, ℕ, Option, Some}
 use Rattle.md_copy.specs.declared.beginning.fault.RebuildFault.{RebuildFault}
 use Rattle.md_copy.specs.declared.rebuilt.Rebuilt.{Rebuilt}
 use Rattle.md_copy.specs.Rebuilding.{Rebuilds, RefusesRebuild}
-use Rattle.md_examine.specs.declared.sink.Sink.{Ghosts}
+use Rattle.md_streams.specs.declared.sink.Sink.{Ghosts}
 use Rattle.md_faults.specs.declared.re_add_fault.ReAddFault.{ReAddFault}
 use Rattle.md_resync.specs.declared.fault.ResyncFault.{ResyncFault}
 use Rattle.md_state.specs.View.{Disk, MirrorView}
-use Rattle.md_commands.specs.declared.fault.CommandFault.{CommandFault}
-use Rattle.md_commands.specs.declared.fault.CommandFault.TheVariants.{ReAdd, Rebuild, Resync}
+use Rattle.md_refusals.specs.declared.fault.CommandFault.{CommandFault}
+use Rattle.md_refusals.specs.declared.fault.CommandFault.TheVariants.{ReAdd, Rebuild, Resync}
 use Rattle.md_metadata.specs.ComingBack.{ComesBack, HandsBackAsWas, RefusesComingBack}
 use Rattle.md_metadata.specs.declared.coming_back.extent_of_rebuild.RebuildExtent.{RebuildExtent}
 use Rattle.md_commands.specs.Resyncing.{RefusesNeededResync, ResyncsIfNeeded}

@@ -1,10 +1,11 @@
 -- The input of a write is read.
-use Rattle.std.specs.Prelude.{◌≡◌, ◌≢◌, ℕ, ◌+◌, ◌*◌, ◌%◌, ◌<◌, ◌≤◌, true, List, ◌++◌, length}
-use Rattle.std.specs.Io.KnownBytes.{Consumes, IsAtEnd}
-use Rattle.md_commands.specs.declared.source.Source.{Ghosts}
-use Rattle.md_commands.specs.declared.fault.CommandFault.{CommandFault}
-use Rattle.md_commands.specs.declared.fault.CommandFault.TheVariants.{BadLength, InputFault, NoPieceMemory, OutOfRange}
-use Rattle.md_commands.specs.Source.{Gives}
+use Rattle.std.specs.Prelude.{◌≡◌, ◌≢◌, ℕ, ◌+◌, ◌*◌, ◌%◌, ◌<◌, ◌≤◌, List, ◌++◌, length}
+use Rattle.std.specs.Io.KnownBytes.{IsAtEnd}
+use Rattle.md_streams.specs.declared.source.Source.{Ghosts}
+use Rattle.md_refusals.specs.declared.fault.CommandFault.{CommandFault}
+use Rattle.md_refusals.specs.declared.fault.CommandFault.TheVariants.{BadLength, InputFault, NoPieceMemory, OutOfRange}
+use Rattle.md_streams.specs.FrontFilled.{FailsAfter}
+use Rattle.md_streams.specs.Source.{Gives}
 
 -- so many bytes are whole sectors, and no more than an array of so many sectors has
 pub record HasGoodLength (size len : ℕ) : Type 0 where
@@ -43,13 +44,6 @@ module _ {I : Type 0} (i : Ghosts I) where
     pub few : length bytes ≤ 512 * size
     pub uneven : length bytes % 512 ≢ 0
 
-  -- Bytes came, so many at most, and then a call failed that took none.
-  pub record FailsAfter (most : ℕ) (old new : I) : Type 0 where
-    pub bytes : List ℕ
-    pub few : length bytes ≤ most
-    pub taken : Consumes (i.remaining old) (i.remaining new) bytes
-    pub has_failed : i.failed new ≡ true
-
   -- Bytes came, so many at most, and no call failed: there was no memory for them. That memory was short is not said.
   pub record LacksMemoryFor (most : ℕ) (old new : I) : Type 0 where
     pub bytes : List ℕ
@@ -58,13 +52,13 @@ module _ {I : Type 0} (i : Ghosts I) where
 
   -- an input for an array of so many sectors is not read
   abbrev pub ReadingInputFails : ℕ → I → I → CommandFault → Type 0
-  ReadingInputFails size old new InputFault = FailsAfter (512 * size) old new
+  ReadingInputFails size old new InputFault = FailsAfter i (512 * size) old new
   ReadingInputFails size old new NoPieceMemory = LacksMemoryFor (512 * size + 1) old new
   ReadingInputFails size old new fault = ⊥
 
   -- a piece of so many bytes is not
   abbrev pub AppendingFails : ℕ → I → I → CommandFault → Type 0
-  AppendingFails room old new InputFault = FailsAfter 0 old new
+  AppendingFails room old new InputFault = FailsAfter i 0 old new
   AppendingFails room old new NoPieceMemory = LacksMemoryFor room old new
   AppendingFails room old new fault = ⊥
 

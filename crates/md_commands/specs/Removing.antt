@@ -1,11 +1,11 @@
 -- The command that removes a member.
 use Rattle.std.specs.Prelude.{◌≡◌, ℕ, ◌+◌, List, length, slice_get, Option, Some, None}
-use Rattle.md_examine.specs.declared.sink.Sink.{Ghosts}
+use Rattle.md_streams.specs.declared.sink.Sink.{Ghosts}
 use Rattle.md_state.specs.Steps.Remove.{RefusesRemove, Removes}
 use Rattle.md_state.specs.Trying.{Refuses}
 use Rattle.md_state.specs.View.{Disk, MirrorView}
-use Rattle.md_commands.specs.declared.fault.CommandFault.{CommandFault}
-use Rattle.md_commands.specs.declared.fault.CommandFault.TheVariants.{BadMember, Remove}
+use Rattle.md_refusals.specs.declared.fault.CommandFault.{CommandFault}
+use Rattle.md_refusals.specs.declared.fault.CommandFault.TheVariants.{BadMember, Remove}
 use Rattle.md_commands.specs.Failing.{HasMember, LacksMember}
 use Rattle.md_commands.specs.Stopping.{FailsToStopArray}
 

@@ -1,14 +1,14 @@
 -- An array is resynced: by a command of its own, or because another one needs it.
 use Rattle.std.specs.Prelude.{◌≡◌, Bool, true, false, not, ◌&&◌}
-use Rattle.md_examine.specs.declared.sink.Sink.{Ghosts}
+use Rattle.md_streams.specs.declared.sink.Sink.{Ghosts}
 use Rattle.md_state.specs.Members.{is_degraded}
 use Rattle.md_state.specs.View.{ArrayView, MirrorView}
 use Rattle.md_resync.specs.declared.fault.ResyncFault.{ResyncFault}
 use Rattle.md_resync.specs.Resyncing.{RefusesResync, Resyncs}
 use Rattle.md_report.specs.AsText.WholeArray.SummaryReport.{summary_text}
-use Rattle.md_commands.specs.declared.fault.CommandFault.{CommandFault}
-use Rattle.md_commands.specs.declared.fault.CommandFault.TheVariants.{OutputFault, Resync, Stop}
-use Rattle.md_commands.specs.Output.{PutsOut}
+use Rattle.md_refusals.specs.declared.fault.CommandFault.{CommandFault}
+use Rattle.md_refusals.specs.declared.fault.CommandFault.TheVariants.{OutputFault, Resync, Stop}
+use Rattle.md_streams.specs.Putting.{PutsOut}
 use Rattle.md_commands.specs.Stopping.{FailsToStop, StopsAfter}
 
 -- Some role has no member in sync, and members in sync may differ. The marks of such an array stay, so that each opening finds it

@@ -3,34 +3,34 @@ use Rattle.std.specs.Prelude.{◌≡◌, ℕ, Bool, List, true, false}
 use Rattle.md_copy.specs.declared.beginning.fault.RebuildFault.{RebuildFault}
 use Rattle.md_copy.specs.declared.salvaging.salvaged.Salvaged.{Salvaged}
 use Rattle.md_copy.specs.Salvaging.Steps.{RefusesSalvage, Salvages}
-use Rattle.md_examine.specs.declared.sink.Sink.{Ghosts}
+use Rattle.md_streams.specs.declared.sink.Sink.{Ghosts}
 use Rattle.md_report.specs.AsJson.Objects.{object_line}
 use Rattle.md_report.specs.AsJson.Rebuilds.SalvagedObject.{salvaged_object}
 use Rattle.md_report.specs.AsText.Rebuilds.SalvagedReport.{salvaged_line, salvaged_text}
 use Rattle.md_state.specs.Trying.{Refuses}
 use Rattle.md_state.specs.View.{MirrorView}
-use Rattle.md_commands.specs.declared.fault.CommandFault.{CommandFault}
-use Rattle.md_commands.specs.declared.fault.CommandFault.TheVariants.{BadMember, OutputFault, Rebuild, Resync, Stop}
+use Rattle.md_refusals.specs.declared.fault.CommandFault.{CommandFault}
+use Rattle.md_refusals.specs.declared.fault.CommandFault.TheVariants.{BadMember, OutputFault, Rebuild, Resync, Stop}
 use Rattle.md_commands.specs.Failing.{HasMember, LacksMember}
-use Rattle.md_commands.specs.Output.{PutsOut}
-use Rattle.md_commands.specs.Resyncing.{RefusesNeededResync, ResyncsIfNeeded}
+use Rattle.md_streams.specs.Putting.{PutsOut}
+use Rattle.md_commands.specs.SettingAside.{RefusesSalvageResync, ResyncsToSalvage}
 use Rattle.md_commands.specs.Stopping.{FailsToStop, StopsAfter}
 
 -- the array is resynced where it has to be, and then member k is salvaged, and this is told of it
 pub record SalvagesResynced (k : ℕ) (told : Salvaged) (old new : MirrorView) : Type 0 where
   pub ready : MirrorView
-  pub readied : ResyncsIfNeeded old ready
+  pub readied : ResyncsToSalvage old ready
   pub salvages : Salvages k told ready new
 
 -- The member is not salvaged.
 pub record FailsToSalvage (k : ℕ) (old new : MirrorView) (fault : RebuildFault) : Type 0 where
   pub ready : MirrorView
-  pub readied : ResyncsIfNeeded old ready
+  pub readied : ResyncsToSalvage old ready
   pub refused : RefusesSalvage k ready new fault
 
 -- The member is not salvaged, or the array is not stopped after that.
 abbrev pub RefusesSalvaging : ℕ → MirrorView → MirrorView → CommandFault → Type 0
-RefusesSalvaging k old new (Resync fault) = RefusesNeededResync old new fault
+RefusesSalvaging k old new (Resync fault) = RefusesSalvageResync old new fault
 RefusesSalvaging k old new (Rebuild fault) = FailsToSalvage k old new fault
 RefusesSalvaging k old new (Stop fault) =
     FailsToStop (λ mid. (told : Salvaged) × SalvagesResynced k told old mid) new fault

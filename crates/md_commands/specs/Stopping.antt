@@ -1,12 +1,12 @@
 -- The command that stops an array.
 use Rattle.std.specs.Prelude.{◌≡◌, ℕ, true, List}
-use Rattle.md_examine.specs.declared.sink.Sink.{Ghosts}
+use Rattle.md_streams.specs.declared.sink.Sink.{Ghosts}
 use Rattle.md_state.specs.View.{ArrayView, MirrorView}
 use Rattle.md_metadata.specs.declared.stop_fault.StopFault.{StopFault}
 use Rattle.md_metadata.specs.Stopping.{RefusesStop, StopsMirror}
-use Rattle.md_commands.specs.declared.fault.CommandFault.{CommandFault}
-use Rattle.md_commands.specs.declared.fault.CommandFault.TheVariants.{OutputFault, Stop}
-use Rattle.md_commands.specs.Output.{PutsOut}
+use Rattle.md_refusals.specs.declared.fault.CommandFault.{CommandFault}
+use Rattle.md_refusals.specs.declared.fault.CommandFault.TheVariants.{OutputFault, Stop}
+use Rattle.md_streams.specs.Putting.{PutsOut}
 
 -- something was done to the mirror, and then the array was stopped
 pub record StopsAfter (Through : MirrorView → Type 0) (new : MirrorView) : Type 0 where

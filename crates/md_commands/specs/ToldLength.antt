@@ -3,8 +3,8 @@ use Rattle.std.specs.Prelude.{◌≡◌, ◌≢◌, ◌⊎◌, ℕ, ◌*◌, ◌
 use Rattle.md_faults.specs.declared.step_fault.BeginFault.TheVariants as begin
 use Rattle.md_state.specs.Steps.Begin.{IsInRange}
 use Rattle.md_state.specs.View.{ArrayView}
-use Rattle.md_commands.specs.declared.fault.CommandFault.{CommandFault}
-use Rattle.md_commands.specs.declared.fault.CommandFault.TheVariants.{BadLength, OutOfRange, Write}
+use Rattle.md_refusals.specs.declared.fault.CommandFault.{CommandFault}
+use Rattle.md_refusals.specs.declared.fault.CommandFault.TheVariants.{BadLength, OutOfRange, Write}
 use Rattle.md_commands.specs.ReadingInput.{HasGoodLength, RefusesLength}
 
 -- Of a length that is known: it is a good one, and a resynced array has these sectors.

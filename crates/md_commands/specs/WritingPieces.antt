@@ -1,5 +1,5 @@
 -- An input whose length is known is written piece by piece.
-use Rattle.std.specs.Prelude.{◌≡◌, ◌⊎◌, ℕ, ◌+◌, ◌*◌, ◌-◌, ◌/◌, ◌%◌, ◌<◌, ◌≤◌, Bool, true, min, List, [], ◌∷◌, ◌++◌, length, take}
+use Rattle.std.specs.Prelude.{◌≡◌, ◌⊎◌, ℕ, ◌+◌, ◌*◌, ◌-◌, ◌/◌, ◌%◌, ◌<◌, ◌≤◌, Bool, true, min, List, [], ◌∷◌, ◌++◌, length}
 use Rattle.std.specs.Io.KnownBytes.{Consumes, IsAtEnd}
 use Rattle.std.specs.List.{concat}
 use Rattle.md_faults.specs.declared.step_fault.BeginFault.{BeginFault}
@@ -8,12 +8,12 @@ use Rattle.md_resync.specs.declared.fault.ResyncFault.{ResyncFault}
 use Rattle.md_state.specs.Steps.Begin.{HasMarked, IsInRange}
 use Rattle.md_state.specs.View.{MirrorView}
 use Rattle.md_write.specs.Writing.{RefusesWrite, Writes}
-use Rattle.md_commands.specs.declared.fault.CommandFault.{CommandFault}
-use Rattle.md_commands.specs.declared.fault.CommandFault.TheVariants.{BadLength, InputFault, NoPieceMemory, Resync, Write}
-use Rattle.md_commands.specs.declared.source.Source.{Ghosts}
-use Rattle.md_commands.specs.ReadingInput.{FailsAfter}
+use Rattle.md_refusals.specs.declared.fault.CommandFault.{CommandFault}
+use Rattle.md_refusals.specs.declared.fault.CommandFault.TheVariants.{BadLength, InputFault, NoPieceMemory, Resync, Write}
+use Rattle.md_streams.specs.declared.source.Source.{Ghosts}
+use Rattle.md_streams.specs.FrontFilled.{FailsAfter}
 use Rattle.md_commands.specs.Resyncing.{RefusesNeededResync, ResyncsIfNeeded}
-use Rattle.md_commands.specs.Source.{Gives}
+use Rattle.md_streams.specs.Source.{Gives}
 
 -- a piece has so many sectors at most: 16 MiB
 abbrev pub most_at_once : ℕ
@@ -70,19 +70,8 @@ pub record IsToldOfAll {W : Type 0} (writes has_written : W → ℕ → Type 0) 
   pub all : writes watch count
   pub done : has_written watch count
 
--- only a call that failed refuses it
-abbrev pub IsInputFault : Type 0 → CommandFault → Type 0
-IsInputFault Why InputFault = Why
-IsInputFault Why fault = ⊥
-
 module _ {I : Type 0} (i : Ghosts I) where
   -- ---- a piece of the input
-  -- Its front is filled with so many bytes: fewer than it has only at the end of the input.
-  pub record FillsPieceTo (old new : I) (piece : List ℕ) (n : ℕ) : Type 0 where
-    pub few : n ≤ length piece
-    pub gives : Gives i.remaining i.failed old new (take n piece)
-    pub end : n < length piece → IsAtEnd (i.remaining new)
-
   -- no byte came
   pub record HasEnded (old new : I) : Type 0 where
     pub gives : Gives i.remaining i.failed old new []

@@ -10,12 +10,12 @@ ghost use Rattle.md_commands.specs.Adding.{AddsDevice, KeepsDevice, RefusesJoini
 ghost use Rattle.md_commands.specs.Objects.{summary_line};
 ghost use Rattle.md_commands.specs.Stopping.{StopsArrayAfter};
 
-use crate::fault::CommandFault;
 use crate::stopped_object::stop_as_object;
 use crate::stopping::stop_array;
 use md_array::Mirror;
 use md_device::Device;
-use md_examine::Sink;
+use md_refusals::CommandFault;
+use md_streams::Sink;
 use std::alloc::Global;
 
 /// Adds a device to the array as a spare, then stops the array, and puts out what it is in one line. What

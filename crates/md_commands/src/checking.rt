@@ -9,15 +9,14 @@ ghost use Rattle.md_report.specs.AsText.CheckReport.{list_text};
 ghost use Rattle.md_commands.specs.Checking.{ChecksMembers, ListsMismatches, RefusesToCheck, RefusesToList, sectors_to_read};
 ghost use Rattle.md_commands.specs.Objects.{checked_line};
 
-use crate::fault::CommandFault;
 use crate::objects::put_check_json;
 use crate::output::{put_checked, put_listed};
-use crate::watch::Watch;
 use md_array::Mirror;
 use md_check::{check_array, compare_members};
 use md_device::Device;
-use md_examine::Sink;
-use md_report::members_in_sync;
+use md_notices::in_sync_count;
+use md_refusals::CommandFault;
+use md_streams::{Sink, Watch};
 use std::alloc::Global;
 use std::thread::Threads;
 
@@ -100,6 +99,6 @@ pub fn check_members_json<D: Device + Drop + Send, W: Watch + Sync, S: Sink, T: 
 fn sectors_to_read<D: Device + Drop>(mirror: &Mirror<D>) -> u64
     ensures { result ≡ sectors_to_read mirror.now.array }
 {
-    let members = members_in_sync(mirror) as u64;
+    let members = in_sync_count(mirror) as u64;
     members.saturating_mul(mirror.chunks().size)
 }

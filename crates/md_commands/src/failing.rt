@@ -8,12 +8,12 @@ ghost use Rattle.md_report.specs.AsText.WholeArray.SummaryReport.{summary_text};
 ghost use Rattle.md_commands.specs.Failing.{RefusesFailing, RefusesToFail};
 ghost use Rattle.md_commands.specs.Stopping.{StopsArrayAfter};
 
-use crate::fault::CommandFault;
 use crate::named_member::named_member;
 use crate::stopping::stop_array;
 use md_array::Mirror;
 use md_device::Device;
-use md_examine::Sink;
+use md_refusals::CommandFault;
+use md_streams::Sink;
 
 /// Fails the member with this index, then stops the array, and puts out what it is in one line. It takes no
 /// memory.

@@ -2,8 +2,8 @@
 ghost use Rattle.std.specs.Prelude.{◌≡◌, ◌+◌, ◌*◌, ◌-◌, ◌<◌, ◌≤◌, ◌++◌, MatchResult, length};
 ghost use Rattle.md_commands.specs.ReadingInput.{AppendingFails, AppendsPiece, HasGoodLength, IsInput, ReadingInputFails, RefusesInput, RefusesLength, TakesUpTo};
 
-use crate::fault::CommandFault;
-use crate::source::Source;
+use md_refusals::CommandFault;
+use md_streams::Source;
 use std::alloc::Global;
 
 // How many bytes are asked for at once: 64 KiB.

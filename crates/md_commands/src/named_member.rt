@@ -1,10 +1,10 @@
 // The member that a command names.
 ghost use Rattle.std.specs.Prelude.{◌≡◌, ◌<◌, ◌≤◌, MatchResult, length};
-ghost use Rattle.md_commands.specs.declared.fault.CommandFault.TheVariants.{BadMember};
+ghost use Rattle.md_refusals.specs.declared.fault.CommandFault.TheVariants.{BadMember};
 
-use crate::fault::CommandFault;
 use md_array::Mirror;
 use md_device::Device;
+use md_refusals::CommandFault;
 
 /// The member with this index, if there is one.
 pub(crate) fn named_member<D: Device + Drop>(

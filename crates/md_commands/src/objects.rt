@@ -1,20 +1,21 @@
 // What a command puts out as a JSON object.
 ghost use Rattle.std.specs.Prelude.{◌≡◌, MatchResult};
 ghost use Rattle.md_bitmap.specs.Marks.{count_set};
-ghost use Rattle.md_check.specs.Differences.{IsSized};
+ghost use Rattle.md_collect.specs.Found.{IsSized};
 ghost use Rattle.md_report.specs.AsJson.WholeArray.MemberObjects.{texts_of};
 ghost use Rattle.md_commands.specs.Objects.{checked_line, detail_line, planned_line, rebuilt_object_line, summary_line};
-ghost use Rattle.md_commands.specs.Output.{FailsOutput, PutsOut};
+ghost use Rattle.md_refusals.specs.Output.{FailsOutput};
+ghost use Rattle.md_streams.specs.Putting.{PutsOut};
 ghost use Rattle.md_commands.specs.Salvaging.{salvaged_object_line};
 
-use crate::fault::CommandFault;
 use md_array::Mirror;
-use md_check::Comparison;
+use md_cert::Planned;
+use md_collect::Comparison;
 use md_copy::{Rebuilt, Salvaged};
 use md_device::Device;
-use md_examine::Sink;
-use md_plan::Planned;
+use md_refusals::CommandFault;
 use md_report::{check_json, detail_json, plan_json, rebuilt_json, salvaged_json, summary_json};
+use md_streams::Sink;
 
 /// Puts out an array in short, for a command of this name.
 pub(crate) fn put_summary_json<D: Device + Drop, S: Sink>(

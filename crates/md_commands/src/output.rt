@@ -1,30 +1,31 @@
 // What a command puts out.
 ghost use Rattle.std.specs.Prelude.{◌≡◌, MatchResult};
 ghost use Rattle.md_bitmap.specs.Marks.{count_set};
-ghost use Rattle.md_check.specs.Differences.{IsSized};
-ghost use Rattle.md_examine.specs.Sink.{PutsOrFails};
+ghost use Rattle.md_collect.specs.Found.{IsSized};
+ghost use Rattle.md_streams.specs.Sink.{PutsOrFails};
+ghost use Rattle.md_streams.specs.Putting.{PutsOut};
 ghost use Rattle.md_report.specs.AsText.CheckReport.{check_text, list_text};
 ghost use Rattle.md_report.specs.AsText.WholeArray.DetailReport.{detail_text};
 ghost use Rattle.md_report.specs.AsText.Rebuilds.RebuiltReport.{planned_text};
 ghost use Rattle.md_report.specs.AsText.WholeArray.SummaryReport.{summary_text};
 ghost use Rattle.md_report.specs.AsText.WholeArray.VerboseReport.{verbose_text};
 ghost use Rattle.md_report.specs.AsJson.WholeArray.MemberObjects.{texts_of};
-ghost use Rattle.md_commands.specs.Output.{FailsOutput, PutsOut};
+ghost use Rattle.md_refusals.specs.Output.{FailsOutput};
 ghost use Rattle.md_commands.specs.Rebuilding.{rebuilt_shown};
 ghost use Rattle.md_commands.specs.Salvaging.{salvaged_shown};
 
-use crate::fault::CommandFault;
 use md_array::Mirror;
 use md_bitmap::Chunks;
-use md_check::Comparison;
+use md_cert::Planned;
+use md_collect::Comparison;
 use md_copy::{Rebuilt, Salvaged};
 use md_device::Device;
-use md_examine::{Sink, SinkFault};
-use md_plan::Planned;
+use md_refusals::CommandFault;
 use md_report::{
     check_list_report, check_report, detail, plan_report, rebuilt_line_report, rebuilt_report,
     salvaged_line_report, salvaged_report, summary, verbose_detail,
 };
+use md_streams::{Sink, SinkFault};
 
 /// Puts out an array in one line.
 pub(crate) fn put_summary<D: Device + Drop, S: Sink>(

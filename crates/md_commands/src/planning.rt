@@ -6,14 +6,15 @@ ghost use Rattle.md_report.specs.AsText.Rebuilds.RebuiltReport.{planned_text};
 ghost use Rattle.md_commands.specs.Planning.{IsRebuildPlan, RefusesPlan, RefusesPlanTarget, RefusesToPlan, ShowsPlan};
 ghost use Rattle.md_commands.specs.Objects.{planned_line};
 
-use crate::fault::CommandFault;
 use crate::objects::put_plan_json;
 use crate::output::put_plan;
 use md_array::Mirror;
+use md_cert::Planned;
 use md_copy::{RebuildFault, table};
 use md_device::Device;
-use md_examine::Sink;
-use md_plan::{Planned, plan};
+use md_plan::plan;
+use md_refusals::CommandFault;
+use md_streams::Sink;
 use std::alloc::Global;
 
 /// Puts out the plan of a rebuild of the member with this index: which chunk it would get from which other member, in as

@@ -11,16 +11,15 @@ ghost use Rattle.md_commands.specs.Objects.{summary_line};
 ghost use Rattle.md_commands.specs.ReAdding.{ReAddsDevice, RebuildsMember, RefusesRebuilding, RefusesToReAdd};
 ghost use Rattle.md_commands.specs.Stopping.{StopsArrayAfter};
 
-use crate::fault::CommandFault;
 use crate::rebuilding::rebuild_watched;
 use crate::resyncing::resync_if_needed;
 use crate::stopped_object::stop_as_object;
 use crate::stopping::stop_array;
-use crate::watch::Watch;
 use md_array::Mirror;
 use md_device::Device;
-use md_examine::Sink;
 use md_metadata::{RebuildExtent, come_back};
+use md_refusals::CommandFault;
+use md_streams::{Sink, Watch};
 use std::alloc::Global;
 use std::sync::Wait;
 use std::thread::Threads;

@@ -9,12 +9,12 @@ ghost use Rattle.md_report.specs.AsText.WholeArray.SummaryReport.{summary_text};
 ghost use Rattle.md_commands.specs.Removing.{HandsBack, RefusesRemoving, RefusesToRemove, RemovesMember};
 ghost use Rattle.md_commands.specs.Stopping.{StopsArrayAfter};
 
-use crate::fault::CommandFault;
 use crate::named_member::named_member;
 use crate::stopping::stop_array;
 use md_array::Mirror;
 use md_device::Device;
-use md_examine::Sink;
+use md_refusals::CommandFault;
+use md_streams::Sink;
 
 /// Removes the member with this index, then stops the array, and puts out what it is in one line. The device
 /// of the member comes back, also where the array is not stopped or shown after it left; where none left

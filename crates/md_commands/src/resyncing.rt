@@ -5,13 +5,13 @@ ghost use Rattle.md_state.specs.Requests.{IsPending};
 ghost use Rattle.md_array.specs.Consistency.{IsConsistent};
 ghost use Rattle.md_commands.specs.Resyncing.{RefusesNeededResync, RefusesToResync, ResyncsArray, ResyncsIfNeeded};
 
-use crate::fault::CommandFault;
 use crate::output::put_summary;
 use md_array::Mirror;
 use md_device::Device;
-use md_examine::Sink;
 use md_metadata::stop;
+use md_refusals::CommandFault;
 use md_resync::{ResyncFault, resync};
+use md_streams::Sink;
 use std::alloc::Global;
 
 /// Resynchronises an array, stops it, and puts out what it is then in one line.

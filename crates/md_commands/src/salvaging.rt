@@ -10,18 +10,17 @@ ghost use Rattle.md_commands.specs.Rebuilding.{IsTakenUp, IsToldOfTakingUp, IsTo
 ghost use Rattle.md_commands.specs.Salvaging.{RefusesSalvaging, RefusesToSalvage, SalvagesArray, SalvagesResynced, salvaged_object_line, salvaged_shown};
 ghost use Rattle.md_commands.specs.Stopping.{StopsAfter};
 
-use crate::fault::CommandFault;
 use crate::named_member::named_member;
 use crate::objects::put_salvaged_json;
 use crate::output::put_salvaged;
 use crate::rebuilding::{chunks_lacked, tell_if_taken_up};
-use crate::resyncing::resync_if_needed;
-use crate::watch::Watch;
+use crate::setting_aside::resync_to_salvage;
 use md_array::Mirror;
 use md_copy::{RebuildFault, Salvaged, salvage};
 use md_device::Device;
-use md_examine::Sink;
 use md_metadata::stop;
+use md_refusals::CommandFault;
+use md_streams::{Sink, Watch};
 use std::alloc::Global;
 use std::sync::Wait;
 use std::thread::Threads;
@@ -98,7 +97,7 @@ fn salvage_and_stop<D: Device + Drop + Send, W: Watch + Sync, T: Threads + Wait 
     ensures sound { IsConsistent mirror.new }
     ensures pending { (p : PendingView) → IsPending mirror.old.array p → IsPending mirror.new.array p }
 {
-    resync_if_needed(alloc, mirror).map_err(CommandFault::Resync)?;
+    resync_to_salvage(alloc, mirror).map_err(CommandFault::Resync)?;
     let salvaged = salvage_watched(rt, alloc, mirror, k, watch).map_err(CommandFault::Rebuild)?;
     stop(mirror).map_err(CommandFault::Stop)?;
     Ok(salvaged)

@@ -4,14 +4,14 @@ ghost use Rattle.md_report.specs.AsText.WholeArray.SummaryReport.{summary_text};
 ghost use Rattle.md_report.specs.AsText.WholeArray.VerboseReport.{verbose_text};
 ghost use Rattle.md_report.specs.AsJson.WholeArray.MemberObjects.{texts_of};
 ghost use Rattle.md_commands.specs.Objects.{detail_line, summary_line};
-ghost use Rattle.md_commands.specs.Output.{ShowsText};
+ghost use Rattle.md_refusals.specs.Output.{ShowsText};
 
-use crate::fault::CommandFault;
 use crate::objects::{put_detail_json, put_summary_json};
 use crate::output::{put_detail, put_summary, put_verbose_detail};
 use md_array::Mirror;
 use md_device::Device;
-use md_examine::Sink;
+use md_refusals::CommandFault;
+use md_streams::Sink;
 
 /// Puts out an array in one line. It stays as it is.
 ///

@@ -7,12 +7,12 @@ ghost use Rattle.md_report.specs.AsJson.WholeArray.MemberObjects.{texts_of};
 ghost use Rattle.md_commands.specs.Objects.{summary_line};
 ghost use Rattle.md_commands.specs.Stopping.{RefusesToStop, StopsArray};
 
-use crate::fault::CommandFault;
 use crate::objects::put_summary_json;
 use md_array::Mirror;
 use md_device::Device;
-use md_examine::Sink;
 use md_metadata::stop;
+use md_refusals::CommandFault;
+use md_streams::Sink;
 
 /// Stops an array, and puts out what it is then as a JSON object, of whose members these are the images. It takes no memory.
 pub fn stop_array_json<D: Device + Drop, S: Sink>(

@@ -6,12 +6,12 @@ ghost use Rattle.md_array.specs.Consistency.{IsConsistent};
 ghost use Rattle.md_report.specs.AsText.WholeArray.SummaryReport.{summary_text};
 ghost use Rattle.md_commands.specs.Stopping.{RefusesToStop, StopsArray};
 
-use crate::fault::CommandFault;
 use crate::output::put_summary;
 use md_array::Mirror;
 use md_device::Device;
-use md_examine::Sink;
 use md_metadata::stop;
+use md_refusals::CommandFault;
+use md_streams::Sink;
 
 /// Stops an array, and puts out what it is then in one line. It takes no memory.
 pub fn stop_array<D: Device + Drop, S: Sink>(

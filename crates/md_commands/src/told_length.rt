@@ -3,10 +3,10 @@ ghost use Rattle.std.specs.Prelude.{◌≡◌, ◌+◌, ◌^◌, ◌<◌, ◌↔
 ghost use Rattle.md_state.specs.Steps.Begin.{IsInRange};
 ghost use Rattle.md_commands.specs.ToldLength.{IsKnownLength, MayBeRead, RefusesKnown, RefusesTold};
 
-use crate::fault::CommandFault;
 use crate::input::check_length;
 use md_array::{BeginFault, Mirror};
 use md_device::Device;
+use md_refusals::CommandFault;
 
 /// How many bytes an input has to have, where that is known before it is read: so many sectors as are asked for, or what it tells.
 /// Refuses it for that, if it would be refused once it was read, and where it tells another length than is asked for.

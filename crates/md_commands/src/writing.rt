@@ -7,18 +7,16 @@ ghost use Rattle.md_commands.specs.ToldLength.{known_length};
 ghost use Rattle.md_commands.specs.Writing.{IsToldOfLength, RefusesBytes, RefusesInMemory, RefusesToWrite, WritesArray, WritesInput, WritesReadied};
 ghost use Rattle.md_commands.specs.WritingPieces.{IsToldOfFront};
 
-use crate::fault::CommandFault;
 use crate::input::whole_input;
 use crate::output::put_summary;
 use crate::resyncing::resync_if_needed;
-use crate::source::Source;
 use crate::told_length::known_length;
-use crate::watch::Watch;
 use crate::writing_pieces::write_in_pieces;
 use md_array::{BeginFault, Mirror};
 use md_device::Device;
-use md_examine::Sink;
 use md_metadata::stop;
+use md_refusals::CommandFault;
+use md_streams::{Sink, Source, Watch};
 use md_write::write;
 use std::alloc::Global;
 

@@ -4,17 +4,15 @@ ghost use Rattle.md_inflight.specs.Requests.Pending.{PendingView};
 ghost use Rattle.md_state.specs.Requests.{IsPending};
 ghost use Rattle.md_state.specs.Steps.Begin.{IsInRange};
 ghost use Rattle.md_array.specs.Consistency.{IsConsistent};
-ghost use Rattle.md_commands.specs.ReadingInput.{FailsAfter};
-ghost use Rattle.md_commands.specs.Source.{Gives};
-ghost use Rattle.md_commands.specs.WritingPieces.{BeginsPieces, FailsToEnd, FailsToTakePiece, FillsPieceTo, HasEnded, IsInputFault, IsReadyForPieces, IsToldOfAll, IsToldOfFront, RefusesPieces, RefusesReadying, TakesPiece, WritesInPieces, most_at_once, sectors_at_once};
+ghost use Rattle.md_streams.specs.Source.{Gives};
+ghost use Rattle.md_commands.specs.WritingPieces.{BeginsPieces, FailsToEnd, FailsToTakePiece, HasEnded, IsReadyForPieces, IsToldOfAll, IsToldOfFront, RefusesPieces, RefusesReadying, TakesPiece, WritesInPieces, most_at_once, sectors_at_once};
 
-use crate::fault::CommandFault;
 use crate::resyncing::resync_if_needed;
-use crate::source::Source;
 use crate::told_length::is_in_range;
-use crate::watch::Watch;
 use md_array::{BeginFault, Mirror};
 use md_device::Device;
+use md_refusals::CommandFault;
+use md_streams::{Source, Watch, fill_front};
 use md_write::write;
 use std::alloc::{AllocError, Global};
 
@@ -150,23 +148,6 @@ fn fill_piece<I: Source>(input: &mut I, piece: &mut [u8]) -> Result<(), CommandF
         return Err(CommandFault::BadLength);
     }
     Ok(())
-}
-
-// Fills the front of a piece with the next bytes, and answers how many they are: fewer than it has only where the input ended.
-fn fill_front<I: Source>(input: &mut I, piece: &mut [u8]) -> Result<usize, CommandFault>
-    ensures { MatchResult result
-        (FillsPieceTo I.Source input.old input.new piece.new)
-        (IsInputFault (FailsAfter I.Source (length piece.old) input.old input.new)) }
-{
-    let mut filled = 0;
-    while filled < piece.len() {
-        let taken = input.take(&mut piece[filled..])?;
-        if taken == 0 {
-            return Ok(filled);
-        }
-        filled += taken;
-    }
-    Ok(filled)
 }
 
 // Whether no byte comes any more.

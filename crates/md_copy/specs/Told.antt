@@ -1,9 +1,9 @@
 -- What a gate is told of a rebuild.
 use Rattle.std.specs.Prelude.{List, All}
 use Rattle.md_cert.specs.declared.slots.Slot.{Slot}
-use Rattle.md_collect.specs.declared.workers.gate.Gate.{Ghosts}
+use Rattle.md_streams.specs.declared.gate.Gate.{Ghosts}
 use Rattle.md_collect.specs.Workers.Gates.{IsTold}
-use Rattle.md_plan.specs.declared.planner.Planned.{Planned}
+use Rattle.md_cert.specs.declared.planned.Planned.{Planned}
 
 module _ {G : Type 0} (t : Ghosts G) (gate : G) where
   -- of the read of each of these slots

@@ -27,7 +27,6 @@ mod salvaging;
 mod whole_rebuild;
 
 pub use beginning::{RebuildFault, check_rebuild, keep_missing, marks_of, table, uncopied_chunks};
-pub use md_pass::Gate;
 pub use pass_laws::{copies_add, lists_add, passes_end, passes_go_on};
 pub use rebuilt::Rebuilt;
 pub use salvaging::{Salvaged, salvage, salvage_events, salvaged_by_call, sectors_to_list};

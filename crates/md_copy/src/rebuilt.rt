@@ -1,5 +1,5 @@
 // What a rebuild tells.
-use md_plan::Planned;
+use md_cert::Planned;
 
 /// What a rebuild did.
 #[derive(Debug, Drop)]

@@ -20,7 +20,7 @@ use crate::rebuilt::Rebuilt;
 use md_array::Mirror;
 use md_bitmap::Marks;
 use md_device::Device;
-use md_pass::Gate;
+use md_streams::Gate;
 use std::alloc::Global;
 use std::sync::Wait;
 use std::thread::Threads;

@@ -1,9 +1,3 @@
--- What a writer takes.
-pub mod Sink
--- What callers see of a writer as a sink.
-pub mod Output
--- What callers see of a buffered sink.
-pub mod Buffered
 -- Labelled lines and the values in them: the form of the reports is this project's own.
 pub mod Lines
 -- The report of a superblock, as text.
@@ -12,5 +6,5 @@ pub mod SuperblockReport
 pub mod BitmapReport
 -- The report of a member's bad blocks, as text: a line for each maximal run, in a form of this project's own.
 pub mod BadblocksReport
--- How a name is shown on standard error.
-pub mod ShownNames
+-- Why a device is not read as a member, as text.
+pub mod Members

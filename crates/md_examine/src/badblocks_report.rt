@@ -1,13 +1,13 @@
 // The report of a member's bad blocks.
 ghost use Rattle.std.specs.Prelude.{◌++◌, codes, decimal};
 ghost use Rattle.std.specs.List.{flat_map};
-ghost use Rattle.md_examine.specs.Sink.{PutsOrFails};
+ghost use Rattle.md_streams.specs.Sink.{PutsOrFails};
 ghost use Rattle.md_examine.specs.BadblocksReport.{badblocks_report, run_text};
 
 use crate::columns::right_aligned_number;
-use crate::sink::{Sink, SinkFault};
 use itoa::Buffer;
 use md_badblocks::{BadSet, Run};
+use md_streams::{Sink, SinkFault};
 
 /// Writes the report of a set of bad blocks: a line for each of its maximal runs, rising, or one
 /// line where there is none. It takes no memory, and fails only where the sink has failed.
@@ -39,7 +39,7 @@ fn run_line<S: Sink>(out: &mut S, run: &Run) -> Result<(), SinkFault>
 }
 
 // A run's length, and the line's end.
-#[tactic(auto, using(crate::proofs::Puts::puts_then))]
+#[tactic(auto, using(md_streams::proofs::Puts::puts_then))]
 fn size<S: Sink>(out: &mut S, n: u64) -> Result<(), SinkFault>
     ensures { PutsOrFails S.contents S.failed out.old out.new (codes " for " ++ decimal n ++ codes " sectors\n") result }
 {

@@ -1,12 +1,12 @@
 // The report of a bitmap.
 ghost use Rattle.std.specs.Prelude.{codes};
-ghost use Rattle.md_examine.specs.Sink.{PutsOrFails};
+ghost use Rattle.md_streams.specs.Sink.{PutsOrFails};
 ghost use Rattle.md_examine.specs.Lines.{line_text, column};
 ghost use Rattle.md_examine.specs.BitmapReport.{identity_lines, setting_lines, marks_text, bitmap_report};
 
 use crate::lines::{decimal_line, hex_line, line, marks_line, sectors_line, unit_line, uuid_line};
-use crate::sink::{Sink, SinkFault};
 use md_bitmap::{BitmapHeader, Marks};
+use md_streams::{Sink, SinkFault};
 
 /// Writes the report of a bitmap, ten labelled lines. It takes no memory, and fails only where the
 /// sink has failed.

@@ -2,16 +2,16 @@
 ghost use Rattle.std.specs.Prelude.{◌++◌, ◌≤◌, codes, decimal};
 ghost use Rattle.std.specs.Fmt.{signed_decimal};
 ghost use Rattle.uuid.specs.Text.{hyphenated_text, lower};
-ghost use Rattle.md_examine.specs.Sink.{PutsOrFails};
+ghost use Rattle.md_streams.specs.Sink.{PutsOrFails};
 ghost use Rattle.md_examine.specs.Lines.{line_text, hex_text, hex8_text, sectors_text, name_text};
 
-use crate::sink::{Sink, SinkFault};
 use crate::values::{hex_digits, name_len, shown_bytes, zeros_in_front};
 use itoa::{Buffer, Integer};
+use md_streams::{Sink, SinkFault};
 use uuid::Uuid;
 
 /// A value.
-#[tactic(auto, unfolding(crate::specs::Lines::line_text), using(crate::proofs::Puts::puts_then))]
+#[tactic(auto, unfolding(crate::specs::Lines::line_text), using(md_streams::proofs::Puts::puts_then))]
 pub fn line<S: Sink>(out: &mut S, label: &str, value: &[u8]) -> Result<(), SinkFault>
     ensures { PutsOrFails S.contents S.failed out.old out.new (line_text label.now value.now) result }
 {
@@ -23,7 +23,7 @@ pub fn line<S: Sink>(out: &mut S, label: &str, value: &[u8]) -> Result<(), SinkF
 }
 
 /// A value in two parts.
-#[tactic(auto, unfolding(crate::specs::Lines::line_text), using(crate::proofs::Puts::puts_then))]
+#[tactic(auto, unfolding(crate::specs::Lines::line_text), using(md_streams::proofs::Puts::puts_then))]
 pub fn two_part_line<S: Sink>(
     out: &mut S,
     label: &str,
@@ -41,7 +41,7 @@ pub fn two_part_line<S: Sink>(
 }
 
 /// A value in three parts.
-#[tactic(auto, unfolding(crate::specs::Lines::line_text), using(crate::proofs::Puts::puts_then))]
+#[tactic(auto, unfolding(crate::specs::Lines::line_text), using(md_streams::proofs::Puts::puts_then))]
 pub fn three_part_line<S: Sink>(
     out: &mut S,
     label: &str,
@@ -182,7 +182,7 @@ fn four_part_line<S: Sink>(
     Ok(())
 }
 
-#[tactic(auto, using(crate::proofs::Puts::puts_then))]
+#[tactic(auto, using(md_streams::proofs::Puts::puts_then))]
 fn start_line<S: Sink>(out: &mut S, label: &str) -> Result<(), SinkFault>
     ensures { PutsOrFails S.contents S.failed out.old out.new (label.now ++ codes " : ") result }
 {

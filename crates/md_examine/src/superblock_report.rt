@@ -1,6 +1,6 @@
 // The report of a superblock.
 ghost use Rattle.std.specs.Prelude.{◌≡◌, codes};
-ghost use Rattle.md_examine.specs.Sink.{PutsOrFails};
+ghost use Rattle.md_streams.specs.Sink.{PutsOrFails};
 ghost use Rattle.md_examine.specs.Lines.{line_text, column};
 ghost use Rattle.md_examine.specs.SuperblockReport.{array_lines, size_lines, device_lines, state_lines, examine_text, recovery_text, own_role_text, bitmap_text, log_text, state_text, state_letter, array_state};
 
@@ -8,8 +8,8 @@ use crate::lines::{
     decimal_line, hex_line, hex8_line, line, log_line, name_line, offset_line, sectors_line,
     two_part_line, uuid_line,
 };
-use crate::sink::{Sink, SinkFault};
 use itoa::Buffer;
+use md_streams::{Sink, SinkFault};
 use md_super::{
     CLEAN_OFFSET, FAULTY, FEATURE_BITMAP_OFFSET, FEATURE_RECOVERY_OFFSET, Roles, Superblock,
 };

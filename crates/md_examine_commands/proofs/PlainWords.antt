@@ -13,7 +13,7 @@ use Rattle.md_super.specs.declared.fault.SuperFault.{SuperFault}
 use Rattle.md_super.specs.declared.fault.SuperFault.TheVariants as super
 use Rattle.md_members.specs.declared.fault.MemberFault.{MemberFault}
 use Rattle.md_members.specs.declared.fault.MemberFault.TheVariants as member
-use Rattle.md_messages.specs.FaultText.Members.{bitmap_refusal_text, log_refusal_text, member_refusal_text, super_text}
+use Rattle.md_examine.specs.Members.{bitmap_refusal_text, log_refusal_text, member_refusal_text, super_text}
 use Rattle.md_examine_commands.specs.Unshown.{fault_word}
 use Rattle.md_examine_commands.specs.declared.scan.refused.ScanFault.{ScanFault}
 use Rattle.md_examine_commands.specs.declared.scan.refused.ScanFault.TheVariants.{Image, Member}

@@ -1,12 +1,12 @@
 -- A report that was put out, an output that failed under it, and a part that was not read.
 use Rattle.std.proofs.Common.{◌≡◌, ℕ, Bool, List, Result, Ok, Err, IfOk, subst, sym}
 use Rattle.md_device.specs.declared.fault_list.Fault.{Fault}
-use Rattle.md_examine.specs.declared.sink.Sink.{Ghosts}
+use Rattle.md_streams.specs.declared.sink.Sink.{Ghosts}
 use Rattle.md_raw_reports.specs.declared.raw_members.fault.RawFault.{RawFault}
 use Rattle.md_raw_reports.specs.declared.raw_members.fault.RawFault.TheVariants.{NoBitmap, Region, TooShort}
 use Rattle.md_words.specs.Asks.{Ask}
-use Rattle.md_commands.specs.Output.{ShowsText}
-use Rattle.md_commands.specs.declared.fault.CommandFault.{CommandFault}
+use Rattle.md_refusals.specs.Output.{ShowsText}
+use Rattle.md_refusals.specs.declared.fault.CommandFault.{CommandFault}
 use Rattle.md_examine_commands.specs.Examining.{Examines, RefusesOrFails, Reports, of_raw}
 
 module _ {S : Type 0} (s : Ghosts S) (Shown : List ℕ → Type 0) (Refused : CommandFault → Type 0) (old new : S) where

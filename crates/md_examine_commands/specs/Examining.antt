@@ -11,7 +11,7 @@ use Rattle.md_members.specs.declared.info.MemberInfo.{MemberInfo}
 use Rattle.md_members.specs.declared.fault.MemberFault.TheVariants as member
 use Rattle.md_members.specs.Reading.{CallFails, ReadsSuper, RefusesSuper}
 use Rattle.md_members.specs.Members.{IsReadMember, RefusesMember}
-use Rattle.md_examine.specs.declared.sink.Sink.{Ghosts as SinkGhosts}
+use Rattle.md_streams.specs.declared.sink.Sink.{Ghosts as SinkGhosts}
 use Rattle.md_examine.specs.SuperblockReport.{examine_text}
 use Rattle.md_examine.specs.BitmapReport.{bitmap_report}
 use Rattle.md_examine.specs.BadblocksReport.{badblocks_report}
@@ -41,9 +41,9 @@ use Rattle.md_examine_commands.specs.declared.scan.seen.Seen.{Seen}
 use Rattle.md_words.specs.declared.form.ImageForm.TheVariants as form
 use Rattle.md_images.specs.declared.image_fault.ImageFault.{ImageFault}
 use Rattle.md_images.specs.declared.image_refusal.ImageRefusal.TheVariants.{Unopened}
-use Rattle.md_commands.specs.Output.{PutsOut}
-use Rattle.md_commands.specs.declared.fault.CommandFault.{CommandFault}
-use Rattle.md_commands.specs.declared.fault.CommandFault.TheVariants.{BadImage, Member, NoBitmap, OutputFault}
+use Rattle.md_streams.specs.Putting.{PutsOut}
+use Rattle.md_refusals.specs.declared.fault.CommandFault.{CommandFault}
+use Rattle.md_refusals.specs.declared.fault.CommandFault.TheVariants.{BadImage, Member, NoBitmap, OutputFault}
 
 -- ---- By which text an image is shown.
 -- what is read and taken, as a JSON object or as text

@@ -10,7 +10,7 @@ use Rattle.md_assembly.specs.declared.state.MemberState.TheVariants.{InSync, Rec
 use Rattle.md_assembly.specs.Assembled.{tells_otherwise}
 use Rattle.md_assembly.specs.States.{is_in_sync, role_in, role_of, state_of}
 use Rattle.md_examine.specs.Lines.{name_text}
-use Rattle.md_examine.specs.ShownNames.Shown.{is_hidden, shown}
+use Rattle.md_streams.specs.ShownNames.Shown.{is_hidden, shown}
 use Rattle.md_examine_commands.specs.declared.scan.seen.Seen.{Seen}
 
 -- ---- which superblocks belong together

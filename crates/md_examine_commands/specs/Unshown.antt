@@ -5,7 +5,7 @@ use Rattle.serde_json.specs.Data.{Data, string}
 use Rattle.md_super.specs.declared.fault.SuperFault.TheVariants.{Magic}
 use Rattle.md_members.specs.declared.fault.MemberFault.TheVariants.{Super, TooShort}
 use Rattle.md_images.specs.declared.image_fault.ImageFault.TheVariants.{Missing}
-use Rattle.md_messages.specs.FaultText.Members.{member_refusal_text}
+use Rattle.md_examine.specs.Members.{member_refusal_text}
 use Rattle.md_report.specs.AsJson.Objects.{Field, field, list_of, object_of}
 use Rattle.md_examine_commands.specs.declared.scan.refused.Refused.{Refused}
 use Rattle.md_examine_commands.specs.declared.scan.refused.ScanFault.{ScanFault}

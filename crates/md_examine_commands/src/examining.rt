@@ -6,11 +6,11 @@ ghost use Rattle.md_examine_commands.specs.Examining.{Examines, ExaminesOne, IsB
 
 use crate::raw_examining::{show_raw_badblocks, show_raw_bitmap, show_raw_superblock};
 use crate::reports::{put_badblocks, put_bitmap, put_superblock};
-use md_commands::CommandFault;
 use md_device::Device;
-use md_examine::Sink;
 use md_images::{Access, ImageRefusal, Images};
 use md_members::{read_member, read_super};
+use md_refusals::CommandFault;
+use md_streams::Sink;
 use md_words::{ImageCommand, ImageForm};
 use std::alloc::Global;
 

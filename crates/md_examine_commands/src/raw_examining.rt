@@ -5,11 +5,11 @@ ghost use Rattle.md_raw_reports.specs.RawMembers.Raw.{RefusesRawBitmap, RefusesR
 ghost use Rattle.md_examine_commands.specs.Examining.{IsRaw, Reports, ShowsBitmap, ShowsLog, ShowsSuper, of_raw};
 
 use crate::reports::{put_raw_badblocks, put_raw_bitmap, put_raw_superblock};
-use md_commands::CommandFault;
 use md_device::Device;
-use md_examine::Sink;
 use md_members::MemberFault;
 use md_raw_reports::{RawFault, read_raw_bitmap, read_raw_log, read_raw_super};
+use md_refusals::CommandFault;
+use md_streams::Sink;
 
 // Why the bytes of a part are not read, as a command says it.
 fn refusal(fault: RawFault) -> CommandFault

@@ -1,18 +1,19 @@
 // The reports on one image are put out, and what the output holds back of them is passed on.
 ghost use Rattle.std.specs.Prelude.{◌≡◌, ◌≤◌, [], true};
-ghost use Rattle.md_commands.specs.Output.{ShowsText};
+ghost use Rattle.md_refusals.specs.Output.{ShowsText};
 ghost use Rattle.md_examine_commands.specs.Examining.{badblocks_shown, bitmap_shown, no_array_line, raw_bitmap_shown, raw_log_shown, raw_superblock_shown, scan_shown, superblock_shown};
 
 use crate::scan::{Looked, Refused, Seen, scan_json, scan_report};
 use md_badblocks::BadSet;
 use md_bitmap::{BitmapHeader, Marks};
-use md_commands::CommandFault;
-use md_examine::{Sink, examine, examine_badblocks, examine_bitmap};
+use md_examine::{examine, examine_badblocks, examine_bitmap};
 use md_raw_reports::{
     Found, RawBitmap, examine_all, examine_badblocks_all, examine_bitmap_all, raw_bitmap_json,
     raw_log_json, raw_super_json,
 };
+use md_refusals::CommandFault;
 use md_report::{badblocks_json, bitmap_json, superblock_json};
+use md_streams::Sink;
 use md_super::Superblock;
 
 pub(crate) fn put_superblock<S: Sink>(

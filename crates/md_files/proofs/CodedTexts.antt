@@ -6,7 +6,7 @@ use lib.Utf8.{encodes, encode}
 use Rattle.std.proofs.lemmas.Str.{encodes-chars}
 use Rattle.std.proofs.lemmas.List.{flat_map_more}
 use Rattle.std.proofs.lemmas.List.Concat.{flat_map-cons}
-use Rattle.md_examine.specs.ShownNames.Shown.{is_hidden}
+use Rattle.md_streams.specs.ShownNames.Shown.{is_hidden}
 use Rattle.md_files.specs.Streams.CodedText.{code_text, coded, coded_char}
 
 -- a character that does not hide

@@ -22,11 +22,11 @@ mod sparse;
 mod streams;
 mod zeros;
 
-pub use device::{Backing, FileDevice};
+pub use device::{Backing, FileDevice, nodes_unseen};
 pub use masks::{
     Block, LackingFault, LineFault, MapFault, MapOutFault, MapRefusal, MapText, MapWord, MapsFault,
     MaskedDevice, MaskedImages, command_of, map_advice, map_list, map_out_advice, mask_images,
-    mask_of, read_map, strange_command, write_map, write_map_of_read,
+    read_map, strange_command, write_map, write_map_of_read,
 };
 pub use sparse::{HoleFile, OutputFileFault, Sparse, output_file_advice};
 pub use streams::{Cleared, CodedJson, Destination, Line, put_coded};

@@ -5,7 +5,7 @@ ghost use Rattle.md_images.specs.Taking.{image_list, is_missing_word, may_miss, 
 use std::alloc::{AllocError, Global};
 
 /// A word that names an image, and its place among the image words, from 0.
-#[derive(Clone, Copy, Debug)]
+#[derive(Clone, Copy)]
 pub struct ImageWord<'a> {
     pub index: usize,
     pub name: &'a str,

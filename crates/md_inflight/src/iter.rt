@@ -3,8 +3,6 @@ ghost use Rattle.std.specs.Iterator.{YieldsFirstBy, item_count};
 
 use crate::chain::Chain;
 use crate::place::Place;
-use std::fmt;
-use std::fmt::Debug;
 use std::marker::Model;
 
 /// The numbers and items of a list in order of entry, seen as the list of those that are left.
@@ -40,15 +38,5 @@ impl<'a, T> Iterator for Iter<'a, T> {
         self.ahead = self.chain.next(place);
         let node = self.chain.node(place);
         Some((node.number, &node.item))
-    }
-}
-
-impl<'a, T: Debug> Debug for Iter<'a, T> {
-    fn fmt<W: fmt::Write>(&self, f: &mut fmt::Formatter<W>) -> fmt::Result {
-        let left = Iter {
-            chain: self.chain,
-            ahead: self.ahead,
-        };
-        f.debug_list().entries(left).finish()
     }
 }

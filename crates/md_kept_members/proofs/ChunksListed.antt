@@ -177,35 +177,3 @@ is_list_after chunks m copied orphans same less list alike removed added = recor
     ],
   );
 }
-
--- ---- a list is made again, run by run: what is bad is in what was made, or is to come
-abbrev pub IsMadeTo : List Run → List Run → List Run → Type 0
-IsMadeTo runs rest list = (s : ℕ) → IsBad runs s ↔ (IsBad list s ⊎ IsBad rest s)
-
-pub made_none : (runs list : List Run) → list ≡ [] → IsMadeTo runs runs list
-made_none runs list none s = (λ bad. inr bad, λ either. elim either [ inl made ↦ absurd (subst (λ (xs : List Run). IsBad xs s) none made) | inr bad ↦ bad ])
-
-pub made_more : (runs rest old new : List Run) (run : Run) → IsCanonical runs → IsMadeTo runs (run ∷ rest) old
-    → ((s : ℕ) → IsBad new s ↔ (IsBad old s ⊎ ((run.start ≤ s) × (s < run.start + run.len) × (s < 2 ^ 54)))) → IsMadeTo runs rest new
-made_more runs rest old new run canonical before added s = (
-  λ bad. elim ((before s).0 bad) [
-    | inl made ↦ inl ((added s).1 (inl made))
-    | inr left ↦ elim left [
-      | inl here ↦ inl ((added s).1 (inr (here.0, here.1, bad_below 0 s runs canonical bad)))
-      | inr later ↦ inr later
-    ]
-  ],
-  λ either. elim either [
-    | inl made ↦ elim ((added s).0 made) [
-      | inl was ↦ (before s).1 (inl was)
-      | inr here ↦ (before s).1 (inr (inl (here.0, here.1)))
-    ]
-    | inr later ↦ (before s).1 (inr (inr later))
-  ],
-)
-
-pub made_all : (runs rest list : List Run) → rest ≡ [] → IsMadeTo runs rest list → (s : ℕ) → IsBad list s ↔ IsBad runs s
-made_all runs rest list none made s = (
-  λ bad. (made s).1 (inl bad),
-  λ bad. elim ((made s).0 bad) [ inl is ↦ is | inr left ↦ absurd (subst (λ (xs : List Run). IsBad xs s) none left) ],
-)

@@ -39,7 +39,7 @@ mod stored_marks;
 mod taking_back;
 
 pub use agreement::is_resynced;
-pub use bad_lists::{list_after, list_with, log_room};
+pub use bad_lists::{list_after, list_with, log_room, remove_chunks};
 pub use cleared_at::last_cleared;
 pub use due::{make_due, note_recorded};
 pub use enrolling::in_sync;
@@ -61,7 +61,7 @@ pub use other_in_sync::has_other_in_sync;
 pub use own_fields::is_write_mostly;
 pub use permitting::{lists_any, permitted_roles, role_in_sync};
 pub use remembering::{chunking_of, members_of};
-pub use sector_lists::{list_but_for, list_with_sectors};
+pub use sector_lists::{add_sectors, list_but_for, list_with_sectors};
 pub use spares::kept_spare;
 pub use stored_marks::copy_block;
 pub use taking_back::taken_back;

@@ -7,7 +7,7 @@ use std::marker::Model;
 
 /// A member, but for its device. Of the superblock the member's own fields count, as they are stored
 /// next; those of the array are shared.
-#[derive(Debug, Drop)]
+#[derive(Drop)]
 pub struct Member {
     /// As it is stored next, but for the array's fields. Its recovery_offset is the sure offset: of a recovering member, every
     /// sector of the array before it that the member does not list holds what the array holds, whether its chunk is marked or not.

@@ -3,7 +3,7 @@ ghost use Rattle.std.specs.Prelude.{◌≤◌, ◌≤ℤ◌, ◌^◌, ◌↔◌,
 ghost use Rattle.md_members.specs.Areas.{AreApart, IsSmall, IsWithin, end_of_area};
 
 /// A range of sectors. An offset from the superblock may lead before the device's first sector.
-#[derive(Clone, Copy, Debug, PartialEq, Eq)]
+#[derive(Clone, Copy)]
 pub struct Area {
     pub start: i64,
     pub sectors: u64,

@@ -4,8 +4,9 @@ use Rattle.std.specs.Prelude.{slice_get, if◌then◌else◌}
 use Rattle.std.specs.List.{flat_map, range_with_len}
 use Rattle.std.proofs.lemmas.List.Sums.{count_by_more_no, count_by_more_yes}
 use Rattle.clap.specs.Words.{Text}
-use Rattle.md_examine.specs.Sink.{Puts}
-use Rattle.md_examine.proofs.Puts.{flat_map_next, puts_then}
+use Rattle.md_streams.specs.Sink.{Puts}
+use Rattle.md_examine.proofs.Texts.{flat_map_next}
+use Rattle.md_streams.proofs.Puts.{puts_then}
 use Rattle.md_notices.specs.declared.held.held.Held.{Held}
 use Rattle.md_images.specs.Taking.{is_missing_word}
 use Rattle.md_messages.specs.Telling.{each_at, held_line_of, place_among}

@@ -2,18 +2,15 @@
 use Rattle.std.proofs.Common.{◌≡◌, ◌∙◌, ℕ, Bool, true, false, List, [], Option, Result, Ok, Err, get_or, ap, inl, inr, refl, sym}
 use Rattle.std.specs.Prelude.{slice_get, if◌then◌else◌}
 use Rattle.clap.specs.Words.{Text}
-use Rattle.md_examine.specs.Sink.{PutsOrFails}
-use Rattle.md_examine.specs.declared.sink.Sink.{Ghosts}
-use Rattle.md_examine.specs.declared.sink.SinkFault.{SinkFault}
+use Rattle.md_streams.specs.Sink.{PutsOrFails}
+use Rattle.md_streams.specs.Putting.{PutsTold}
+use Rattle.md_streams.specs.declared.sink.Sink.{Ghosts}
+use Rattle.md_streams.specs.declared.sink.SinkFault.{SinkFault}
 use Rattle.md_words.specs.Asks.{Ask, device_to_add, overwritten_by}
 use Rattle.md_words.specs.declared.overwritten.Overwritten.{Overwritten}
 use Rattle.md_messages.specs.declared.notices.Notices.{Notices}
 use Rattle.md_messages.specs.Noticed.{asks_first}
-use Rattle.md_messages.specs.Telling.{PutsTold, first_by, first_text, line_at, line_of}
-
-pub told_or_failed : {E : Type 0} (e : Ghosts E) {a b : E} {text : List ℕ} (result : Result (Unit {0}) SinkFault) → PutsOrFails e.contents e.failed a b text result → PutsTold e a b text
-told_or_failed e (Ok v) h = inl h
-told_or_failed e (Err f) h = inr h
+use Rattle.md_messages.specs.Telling.{first_by, first_text, line_at, line_of}
 
 -- what is said before, by what is overwritten
 pub first_is : (ask : Ask) (names : List Text) (n : Notices) (o : Overwritten) → asks_first ask n ≡ true → o ≡ overwritten_by ask → first_by o (device_to_add ask) names n ≡ first_text ask names n

@@ -1,5 +1,3 @@
--- How the faults of a device that is read as a member are told.
-pub mod Members
 -- How the faults of devices that are opened as an array, or made one, are told.
 pub mod Openings
 -- How the faults of steps of an array are told.

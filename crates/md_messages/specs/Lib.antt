@@ -10,11 +10,9 @@ pub mod Question
 pub mod RefusedLines
 -- What standard error is told of what was noticed.
 pub mod Telling
--- What a terminal is shown and asked.
-pub mod Terminal
--- What is said of a rebuild that goes on.
-pub mod GoingOn
 -- What is said of sectors for which zeros were put out.
 pub mod Missing
 -- What is said of sectors to which a command writes and that can't be read.
 pub mod Unreadable
+-- That a kernel may not be given the array yet.
+pub mod Unready

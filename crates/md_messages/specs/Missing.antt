@@ -2,7 +2,7 @@
 use Rattle.std.specs.Prelude.{ℕ, ◌+◌, ◌-◌, ◌==◌, nat_lt, List, [], ◌++◌, Option, Some, None, codes, decimal, length, sum_by, if◌then◌else◌}
 use Rattle.std.specs.List.{flat_map}
 use Rattle.md_badblocks.specs.declared.run.Run.{Run}
-use Rattle.md_read_commands.specs.declared.gaps.Gaps.{Gaps}
+use Rattle.md_streams.specs.declared.gaps.Gaps.{Gaps}
 use Rattle.md_words.specs.Asks.{Ask, fills}
 use Rattle.md_messages.specs.declared.missing.Stands.{Stands}
 use Rattle.md_messages.specs.declared.missing.Stands.TheVariants.{Zeros, Others}

@@ -1,10 +1,12 @@
 -- What is noticed of an array beside what a command gives: which of its images, and which devices that were not named, get a line.
 use Rattle.std.specs.Prelude.{◌≡◌, ◌↔◌, ◌==◌, ◌&&◌, ◌||◌, ℕ, IsTrue, Bool, false, List, Option, Some, None, MatchOption, length, replicate, slice_get, is_some, unwrap_or, if◌then◌else◌}
+use Rattle.std.specs.List.{position}
 use Rattle.md_state.specs.View.{ArrayView}
 use Rattle.md_kept_members.specs.View.{MemberView}
 use Rattle.md_notices.specs.declared.noticing.Asked.{Asked}
 use Rattle.md_assembly.specs.declared.state.MemberState.{MemberState}
 use Rattle.md_assembly.specs.States.{is_spare}
+use Rattle.md_notices.specs.Kernel.{why_unready}
 use Rattle.md_notices.specs.Noticing.{WereMarkedAtOpening, AreUnnamed, all_dropped, all_parted, all_states, in_sync_count}
 use Rattle.md_notices.specs.ListedSectors.{all_sector_counts, all_longer_lists}
 use Rattle.md_notices.specs.LostSectors.{lost_in}
@@ -35,6 +37,7 @@ nothing = record {
   dropped = replicate 64 false;
   more_listed = replicate 64 None;
   lost = record { count = 0; first = None };
+  unready = None;
   in_sync = 0;
   raid_disks = 0;
   held = Nothing;
@@ -77,6 +80,7 @@ with_dropped ask a left n = record n {
   dropped = all_dropped n.states a.members (asked_of ask left);
   more_listed = all_longer_lists n.listed a.members (asked_of ask left);
   lost = lost_in a;
+  unready = why_unready a;
   in_sync = in_sync_count a.members;
   raid_disks = a.shared.raid_disks;
 }
@@ -108,6 +112,10 @@ asks_before overwritten.ReturningDevice n = n.own || is_unseen n.held
 asks_before (overwritten.Member k) n =
     was_parted n k && was_spare (unwrap_or (slice_get n.states k) None) || is_some n.ungiven.first
 asks_before overwritten.Nothing n = false
+
+-- the first role whose device was not named
+abbrev pub first_absent : Notices → Option ℕ
+first_absent n = position (λ number. is_some number) n.unnamed
 
 -- a command is asked of before it is done
 abbrev pub asks_first : Ask → Notices → Bool

@@ -1,13 +1,13 @@
 -- The question before a command is done: what is asked, and what the answer allows.
-use Rattle.std.specs.Prelude.{◌≡◌, ◌&&◌, Bool, true, false, List, Result, MatchResult}
+use Rattle.std.specs.Prelude.{◌≡◌, ◌&&◌, ℕ, Bool, true, false, List, Option, Some, None, Result, MatchResult, is_some}
 use Rattle.clap.specs.Words.{Text}
 use Rattle.md_words.specs.Asks.{Ask}
-use Rattle.md_commands.specs.declared.fault.CommandFault.{CommandFault}
-use Rattle.md_commands.specs.declared.fault.CommandFault.TheVariants.{Declined, NoMemory}
-use Rattle.md_messages.specs.declared.asker.Asker.{Ghosts}
+use Rattle.md_refusals.specs.declared.fault.CommandFault.{CommandFault}
+use Rattle.md_refusals.specs.declared.fault.CommandFault.TheVariants.{Declined, NoMemory, NotAll}
+use Rattle.md_streams.specs.declared.asker.Asker.{Ghosts}
 use Rattle.md_messages.specs.declared.notices.Notices.{Notices}
-use Rattle.md_messages.specs.Noticed.{asks_first}
-use Rattle.md_messages.specs.Telling.{asked_text}
+use Rattle.md_messages.specs.Noticed.{asks_first, first_absent}
+use Rattle.md_messages.specs.Telling.{asked_text, unnamed_lines}
 
 -- A relation between what was noticed, who is asked, before and after that, and whether the command goes on (`Ok`), or why it does
 -- not.
@@ -40,3 +40,27 @@ module _ {A : Type 0} (g : Ghosts A) (ask : Ask) (names : List Text) where
 
   abbrev pub question : Question A
   question n old new result = MatchResult result (λ _. IsAgreed n old new) (IsDeclined n old new)
+
+-- Whether a command goes on without a member in sync that is not among the images.
+module _ {A : Type 0} (g : Ghosts A) where
+  abbrev pub has_absent : Notices → A → Bool
+  has_absent n asker = is_some (first_absent n) && g.shows asker
+
+  -- It does: the answer was yes to which devices were not named, or there is no question, and nobody was asked.
+  pub record GoesWithout (n : Notices) (old new : A) : Type 0 where
+    pub asked : has_absent n old ≡ true → g.asks old new (unnamed_lines n) true
+    pub unasked : has_absent n old ≡ false → new ≡ old
+
+  -- why it does not: the answer was no; or there was no memory for the lines, and nobody was asked
+  abbrev pub IsWhyNotWithout : Notices → A → A → CommandFault → Type 0
+  IsWhyNotWithout n old new (NotAll role) =
+      (first_absent n ≡ Some role) × g.asks old new (unnamed_lines n) false
+  IsWhyNotWithout n old new NoMemory = new ≡ old
+  IsWhyNotWithout n old new fault = ⊥
+
+  pub record StaysWithout (n : Notices) (old new : A) (fault : CommandFault) : Type 0 where
+    pub asks : has_absent n old ≡ true
+    pub why : IsWhyNotWithout n old new fault
+
+  abbrev pub absent_question : Question A
+  absent_question n old new result = MatchResult result (λ _. GoesWithout n old new) (StaysWithout n old new)

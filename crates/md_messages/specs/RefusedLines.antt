@@ -1,6 +1,6 @@
 -- Lines on a member where a command is refused: forms of this project's own. What is changed in memory need not be stored then.
 use Rattle.std.specs.Prelude.{ℕ, Bool, true, false, List, [], ◌++◌, codes, decimal}
-use Rattle.md_examine.specs.ShownNames.Shown.{shown}
+use Rattle.md_streams.specs.ShownNames.Shown.{shown}
 
 -- A write to it failed: whether the superblocks of the others say so is not told.
 unfoldable pub failed_text : List ℕ → List ℕ

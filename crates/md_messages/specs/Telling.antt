@@ -1,46 +1,42 @@
 -- What standard error is told of what was noticed: which lines, in which order. The names are those of the members' images, in their
 -- order, and a line of a member has its image's name. The lines themselves are those of `md_notices`.
-use Rattle.std.specs.Prelude.{◌≡◌, ◌⊎◌, ℕ, ◌==◌, not, Bool, true, false, List, [], ◌++◌, length, map, take, Option, Some, None, is_some, Result, Ok, Err, slice_get, get_or, unwrap_or, count_by, if◌then◌else◌}
+use Rattle.std.specs.Prelude.{◌≡◌, ℕ, ◌==◌, ◌&&◌, not, Bool, true, false, List, [], ◌++◌, length, map, take, Option, Some, None, is_some, Result, Ok, Err, slice_get, get_or, unwrap_or, count_by, if◌then◌else◌}
 use Rattle.std.specs.List.{flat_map, list_any, range_with_len}
 use Rattle.std.specs.Borrow.{Bor}
 use Rattle.clap.specs.Words.{Text}
 use Rattle.md_assembly.specs.declared.state.MemberState.{MemberState}
-use Rattle.md_commands.specs.declared.fault.CommandFault.{CommandFault}
-use Rattle.md_commands.specs.declared.fault.CommandFault.TheVariants as fault
-use Rattle.md_examine.specs.Sink.{Puts}
-use Rattle.md_examine.specs.declared.sink.Sink.{Ghosts}
+use Rattle.md_refusals.specs.declared.fault.CommandFault.{CommandFault}
+use Rattle.md_refusals.specs.declared.fault.CommandFault.TheVariants as fault
+use Rattle.md_streams.specs.Messages.{has_advice}
+use Rattle.md_streams.specs.Putting.{PutsTold}
+use Rattle.md_streams.specs.declared.sink.Sink.{Ghosts}
 use Rattle.md_notices.specs.declared.held.held.Held.{Held}
 use Rattle.md_notices.specs.declared.held.held.Held.TheVariants.{Nothing, Unseen, Unread, Member, Signed}
 use Rattle.md_notices.specs.Held.Holding.{is_unseen}
 use Rattle.md_images.specs.Taking.{is_missing_word}
 use Rattle.md_notices.specs.Lines.{chunks_lost_text, dropped_text, forgotten_text, held_text, lost_text, marked_line_text, parted_text, identity_text, listed_text, uncompared_text, ungiven_text, unnamed_text, unread_text, unseen_text}
+use Rattle.md_notices.specs.Noticing.{is_place}
 use Rattle.md_notices.specs.Signatures.Texts.{text_of}
 use Rattle.md_notices.specs.UngivenLine.{ungiven_chunks_text}
-use Rattle.md_words.specs.Asks.{Ask, adds, checks, device_to_add, loss_of, member_of, overwritten_by}
+use Rattle.md_words.specs.Asks.{Ask, adds, checks, device_to_add, loss_of, may_part, member_of, overwritten_by}
 use Rattle.md_words.specs.declared.loss.Loss.{Loss}
 use Rattle.md_words.specs.declared.loss.Loss.TheVariants.{Chunks, Sectors}
 use Rattle.md_words.specs.declared.overwritten.Overwritten.{Overwritten}
 use Rattle.md_words.specs.declared.overwritten.Overwritten.TheVariants as overwritten
 use Rattle.md_messages.specs.FaultText.Commands.{refusal_line}
-use Rattle.md_messages.specs.declared.messages.Audience.{Audience}
-use Rattle.md_messages.specs.declared.messages.Messages.{Messages}
-use Rattle.md_messages.specs.declared.messages.Messages.TheVariants.{Plain, WithAdvice}
+use Rattle.md_streams.specs.declared.messages.Audience.{Audience}
 use Rattle.md_messages.specs.declared.notices.Notices.{Notices}
 use Rattle.md_messages.specs.Holding.{held_each}
-use Rattle.md_read_commands.specs.declared.gaps.Gaps.{Gaps}
+use Rattle.md_streams.specs.declared.gaps.Gaps.{Gaps}
 use Rattle.md_messages.specs.Missing.{gap_lines}
 use Rattle.md_messages.specs.Noticed.{asks_first, was_parted}
 use Rattle.md_messages.specs.RefusedLines.{failed_text, perhaps_listed_text}
 use Rattle.md_messages.specs.Unreadable.{unreadable_lines}
+use Rattle.md_messages.specs.Unready.{unready_lines}
 
 -- the texts of words
 abbrev pub texts : List (Bor Text) → List Text
 texts = map (λ s. s.now)
-
--- more is told of a fault than its line
-abbrev pub has_advice : Messages → Bool
-has_advice Plain = false
-has_advice WithAdvice = true
 
 -- the line of a name that is there
 abbrev pub line_of : (Text → List ℕ) → Option Text → List ℕ
@@ -68,14 +64,9 @@ parted_from (Some source) name = parted_text name source
 abbrev pub parted_line : Notices → List Text → Text → List ℕ
 parted_line n names = parted_from (name_in names n.source)
 
--- The member in this place is the one that was asked of.
-abbrev pub is_at : Option ℕ → ℕ → Bool
-is_at None k = false
-is_at (Some j) k = j == k
-
--- The line on a member that was used without those in sync, but for the one that was asked of before.
+-- The line on a member that was used without those in sync, but for the one that was asked of before, in this place.
 abbrev pub parted_at : Option ℕ → Notices → List Text → ℕ → List ℕ
-parted_at before n names k = if is_at before k then [] else line_at (parted_line n names) n.parted names k
+parted_at before n names k = if is_place before k then [] else line_at (parted_line n names) n.parted names k
 
 -- ---- devices that were not named
 abbrev pub unnamed_line : Option ℕ → ℕ → List ℕ
@@ -192,11 +183,15 @@ listed_lines ask names n = flat_map (listed_text_at ask n names) (range_with_len
 abbrev pub first_unless : Audience → Ask → List Text → Notices → List ℕ
 first_unless audience ask names n = if audience.was_shown then [] else first_text ask names n
 
+abbrev pub unnamed_unless : Audience → Ask → Notices → List ℕ
+unnamed_unless audience ask n = if audience.was_shown && may_part ask then [] else unnamed_lines n
+
 -- What was noticed, also of a command that is refused.
 unfoldable pub noticed_text : Audience → Ask → List Text → Notices → List ℕ
 noticed_text audience ask names n =
     marked_lines names n ++ first_unless audience ask names n
-    ++ parted_lines (asked_member (overwritten_by ask) (asks_first ask n)) names n ++ unnamed_lines n
+    ++ parted_lines (asked_member (overwritten_by ask) (asks_first ask n)) names n
+    ++ unnamed_unless audience ask n
 
 abbrev pub lists_more : Notices → Bool
 lists_more n = list_any (λ count. is_some count) n.more_listed
@@ -241,7 +236,7 @@ unfoldable pub told_text : Audience → Ask → List Text → Notices → List �
 told_text audience ask names n =
     noticed_text audience ask names n ++ dropped_lines names n ++ listed_lines ask names n
     ++ loss_lines ask names n ++ uncompared_lines ask names n ++ unreadable_lines ask n
-    ++ lost_lines audience ask
+    ++ lost_lines audience ask ++ unready_lines ask n
 
 -- ---- What is said of a command that is refused.
 -- the line of a member of which a write failed
@@ -275,10 +270,6 @@ unfoldable pub refused_text : Audience → Ask → List Text → Notices → Com
 refused_text audience ask names n why =
     noticed_text audience ask names n ++ failed_lines names n ++ perhaps_listed_lines ask names n
     ++ (if has_joined why then lost_lines audience ask else [])
-
--- The text was put out, or standard error has failed.
-abbrev pub PutsTold : {E : Type 0} → Ghosts E → E → E → List ℕ → Type 0
-PutsTold e old new text = Puts e.contents e.failed old new text ⊎ (e.failed new ≡ true)
 
 -- What standard error is told of a command that is refused: the fault's line, which sectors were put out otherwise, and last which
 -- members list more; with what else was noticed, where more is told of a fault than its line. Before that it is told what to do, of

@@ -2,13 +2,12 @@
 ghost use Rattle.std.specs.Prelude.{◌≡◌, ◌+◌, ◌-◌, ◌^◌, ◌<◌, ◌≤◌, ◌++◌, length};
 ghost use Rattle.std.specs.List.{flat_map};
 ghost use Rattle.md_badblocks.specs.Runs.{IsCanonical};
-ghost use Rattle.md_examine.specs.Sink.{PutsOrFails};
+ghost use Rattle.md_streams.specs.Sink.{PutsOrFails};
 ghost use Rattle.md_words.specs.Asks.{ask_of};
 ghost use Rattle.md_messages.specs.Missing.{after_count, after_one, after_several, between_text, count_if_several, count_text, gap_lines, gaps_told, gaps_text, gap_text, runs_text, gap_count, several_text, single_text};
 
 use md_badblocks::{BadSet, Run};
-use md_examine::{Sink, SinkFault, number_after};
-use md_read_commands::Gaps;
+use md_streams::{Gaps, Sink, SinkFault, number_after};
 use md_words::Command;
 
 /// What stands in the place of sectors that were not given.

@@ -5,16 +5,16 @@ ghost use Rattle.md_words.specs.Asks.{ask_of, loss_of, overwritten_by};
 ghost use Rattle.md_state.specs.View.{disk_of};
 ghost use Rattle.md_words.specs.declared.overwritten.Overwritten.TheVariants as overwritten;
 ghost use Rattle.md_messages.specs.Holding.{IsJoining, IsOwn, NotesHeld, NotesHeldOnEach, one_needs_telling};
-ghost use Rattle.md_messages.specs.Noticed.{NotesOpening, asked_of, asks_first, asks_before, nothing, parted_members, ungiven_by, was_parted, was_spare, with_dropped, without_stored};
+ghost use Rattle.md_messages.specs.Noticed.{NotesOpening, asked_of, asks_first, asks_before, first_absent, nothing, parted_members, ungiven_by, was_parted, was_spare, with_dropped, without_stored};
 
 use md_array::Mirror;
 use md_assembly::MemberState;
 use md_device::Device;
 use md_notices::{
-    Asked, Held, Lost, MAX_MEMBERS, MAX_ROLES, UngivenChunks, chunks_ungiven, find_lost,
+    Asked, Held, Lost, MAX_MEMBERS, MAX_ROLES, UngivenChunks, Unready, chunks_ungiven, find_lost,
     first_in_sync, held_on, held_on_each, in_sync_count, is_forgotten, members_dropped,
     members_listing, members_listing_more, members_marked, members_parted, roles_unnamed,
-    states_of, was_apart,
+    states_of, unready_for_kernel, was_apart,
 };
 use md_super::Superblock;
 use md_words::{Command, Loss, Overwritten};
@@ -23,8 +23,8 @@ use std::alloc::{AllocError, Global};
 /// What is noticed of an array as it is opened, and as a command leaves it, by the places of the images among its
 /// members, and by its roles: on which images marks were stored, and which member is in sync alone; which members were
 /// used without those in sync, of which one is named, and which devices were not named; which members dropped out, and
-/// how many of how many are in sync then; which chunks a rebuild would list whole; which list more sectors as bad than before, and how many; and which sectors of
-/// the array no member in sync gives then. It is told after the command: of a refused one it may be nothing but the
+/// how many of how many are in sync then; which chunks a rebuild would list whole; which list more sectors as bad than before, and how many; which sectors of
+/// the array no member in sync gives then, and why a kernel may not be given it. It is told after the command: of a refused one it may be nothing but the
 /// fault that is told.
 #[derive(Drop)]
 pub struct Notices {
@@ -39,6 +39,7 @@ pub struct Notices {
     pub dropped: [bool; MAX_MEMBERS],
     pub more_listed: [Option<u64>; MAX_MEMBERS],
     pub lost: Lost,
+    pub unready: Option<Unready>,
     pub in_sync: usize,
     pub raid_disks: u32,
     pub held: Held,
@@ -63,6 +64,7 @@ impl Notices {
             dropped: [false; MAX_MEMBERS],
             more_listed: [None; MAX_MEMBERS],
             lost: Lost::none(),
+            unready: None,
             in_sync: 0,
             raid_disks: 0,
             held: Held::Nothing,
@@ -115,8 +117,8 @@ impl Notices {
         self.listed = members_listing(mirror);
     }
 
-    /// Notes which members dropped out in a command, which left the array so, which list more sectors as bad, and which
-    /// sectors of the array no member in sync gives. `has_left` says whether the member left that the command is to take out.
+    /// Notes which members dropped out in a command, which left the array so, which list more sectors as bad, which
+    /// sectors of the array no member in sync gives, and why a kernel may not be given it. `has_left` says whether the member left that the command is to take out.
     pub fn note_dropped<D: Device + Drop>(
         &mut self,
         command: Command<'_>,
@@ -129,6 +131,7 @@ impl Notices {
         self.dropped = members_dropped(&self.states, mirror, asked);
         self.more_listed = members_listing_more(&self.listed, mirror, asked);
         self.lost = find_lost(mirror);
+        self.unready = unready_for_kernel(mirror);
         self.in_sync = in_sync_count(mirror);
         self.raid_disks = mirror.shared().raid_disks;
     }
@@ -140,6 +143,13 @@ impl Notices {
         self.marked = [false; MAX_MEMBERS];
         self.dropped = [false; MAX_MEMBERS];
         self.more_listed = [None; MAX_MEMBERS];
+    }
+
+    /// The first role whose device was not named.
+    pub(crate) fn absent_role(&self) -> Option<usize>
+        ensures { result ≡ first_absent self.now }
+    {
+        self.unnamed.iter().position(|number| number.is_some())
     }
 
     /// Whether a command is asked first, since it would overwrite what perhaps should stay.

@@ -4,11 +4,10 @@ ghost use Rattle.md_words.specs.Asks.{ask_of};
 ghost use Rattle.md_messages.specs.Question.{question};
 ghost use Rattle.md_messages.specs.Telling.{asked_text, texts};
 
-use crate::asker::Asker;
 use crate::notices::Notices;
 use crate::telling::put_asked;
-use md_commands::CommandFault;
-use md_examine::{Output, SinkFault};
+use md_refusals::CommandFault;
+use md_streams::{Asker, Output, SinkFault};
 use md_words::Command;
 use std::alloc::Global;
 

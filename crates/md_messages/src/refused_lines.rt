@@ -1,14 +1,14 @@
 // Lines on members where a command is refused. No line takes memory.
 ghost use Rattle.std.specs.Prelude.{◌≡◌, ◌<◌};
-ghost use Rattle.md_examine.specs.Sink.{PutsOrFails};
+ghost use Rattle.md_streams.specs.Sink.{PutsOrFails};
 ghost use Rattle.md_words.specs.Asks.{ask_of};
 ghost use Rattle.md_messages.specs.RefusedLines.{failed_text, good_ones, perhaps_listed_text};
 ghost use Rattle.md_messages.specs.Telling.{failed_at, failed_lines, perhaps_listed_at, perhaps_listed_line, perhaps_listed_lines, texts};
 
 use crate::notices::Notices;
 use crate::telling::{loses_chunks, member_name, name_at};
-use md_examine::{Sink, SinkFault, number_after, put_name};
 use md_notices::MAX_MEMBERS;
+use md_streams::{Sink, SinkFault, number_after, put_name};
 use md_words::Command;
 
 // Says that a write to a member failed, and what to do where the others do not say so. It fails only where the sink has failed, as all

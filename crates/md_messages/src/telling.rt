@@ -1,25 +1,25 @@
 // What standard error is told of what was noticed. No line takes memory.
 ghost use Rattle.std.specs.Prelude.{◌≡◌, ◌<◌, ◌++◌, [], option_map, slice_get, if◌then◌else◌};
-ghost use Rattle.md_examine.specs.Sink.{PutsOrFails};
+ghost use Rattle.md_streams.specs.Sink.{PutsOrFails};
 ghost use Rattle.md_notices.specs.Lines.{ungiven_text};
 ghost use Rattle.md_words.specs.Asks.{ask_of, loss_of, overwritten_by};
-ghost use Rattle.md_messages.specs.Telling.{asked_member, asked_text, chunks_lost_if, dropped_at, dropped_line, dropped_lines, each_lines, first_by, first_text, first_unless, has_joined, held_line, held_line_of, is_at, listed_text_at, listed_line, listed_lines, member_name, line_of, lists_more, loses_chunks, loss_lines, lost_lines, marked_at, marked_lines, name_in, new_line, noticed_text, parted_at, parted_line, parted_lines, rebuilt_lists_more, rebuilt_place, refused_text, returning_line, target_line, texts, told_text, uncompared_lines, unnamed_at, unnamed_lines};
+ghost use Rattle.md_messages.specs.Telling.{asked_member, asked_text, chunks_lost_if, dropped_at, dropped_line, dropped_lines, each_lines, first_by, first_text, first_unless, has_joined, held_line, held_line_of, listed_text_at, listed_line, listed_lines, member_name, line_of, lists_more, loses_chunks, loss_lines, lost_lines, marked_at, marked_lines, name_in, new_line, noticed_text, parted_at, parted_line, parted_lines, rebuilt_lists_more, rebuilt_place, refused_text, returning_line, target_line, texts, told_text, uncompared_lines, unnamed_at, unnamed_lines, unnamed_unless};
 ghost use Rattle.md_messages.specs.Holding.{held_each};
 ghost use Rattle.md_messages.specs.Noticed.{asks_first};
 
-use crate::messages::Audience;
 use crate::notices::Notices;
 use crate::refused_lines::{put_all_failed, put_perhaps_listed};
 use crate::unreadable::put_unreadable;
+use crate::unready::put_unready;
 use md_assembly::MemberState;
-use md_commands::CommandFault;
-use md_examine::{Sink, SinkFault};
 use md_images::is_missing;
 use md_notices::{
     Held, MAX_MEMBERS, MAX_ROLES, chunks_lost_line, chunks_ungiven_line, dropped_line,
-    forgotten_line, held_line, listed_line, lost_line, marked_line, parted_line, standing_line,
-    uncompared_line, ungiven_line, unnamed_line, unread_line, unseen_line,
+    forgotten_line, held_line, is_place, listed_line, lost_line, marked_line, parted_line,
+    standing_line, uncompared_line, ungiven_line, unnamed_line, unread_line, unseen_line,
 };
+use md_refusals::CommandFault;
+use md_streams::{Audience, Sink, SinkFault};
 use md_words::{ArrayCommand, Command, Loss, Overwritten};
 
 /// The name in a place, where there is one.
@@ -104,15 +104,6 @@ fn put_parted_of<S: Sink>(
     }
 }
 
-fn is_place(place: Option<usize>, k: usize) -> bool
-    ensures { result ≡ is_at place k }
-{
-    match place {
-        Some(j) => j == k,
-        None => false,
-    }
-}
-
 fn put_parted_at<S: Sink>(
     out: &mut S,
     notices: &Notices,
@@ -159,8 +150,8 @@ fn put_unnamed<S: Sink>(out: &mut S, notices: &Notices, role: usize) -> Result<(
     }
 }
 
-// Which devices of the array were not named.
-fn put_all_unnamed<S: Sink>(out: &mut S, notices: &Notices) -> Result<(), SinkFault>
+/// Which devices of the array were not named.
+pub(crate) fn put_all_unnamed<S: Sink>(out: &mut S, notices: &Notices) -> Result<(), SinkFault>
     ensures { PutsOrFails S.contents S.failed out.old out.new (unnamed_lines notices.now) result }
 {
     for role in 0..MAX_ROLES {
@@ -470,7 +461,7 @@ fn put_overwritten<S: Sink>(
 
 /// What is shown with the question whether a command goes on: what it is asked of, and which chunks would be listed whole. It
 /// fails only where the output has failed, as all here does.
-#[tactic(auto, unfolding(crate::specs::Telling::asked_text), using(md_examine::proofs::Puts::puts_then))]
+#[tactic(auto, unfolding(crate::specs::Telling::asked_text), using(md_streams::proofs::Puts::puts_then))]
 pub(crate) fn put_asked<S: Sink>(
     notices: &Notices,
     command: Command<'_>,
@@ -527,8 +518,24 @@ fn put_noticed<S: Sink>(
     put_all_marked(out, notices, names)?;
     put_first_unless(out, notices, command, names, audience)?;
     put_all_parted(out, notices, names, asked_member(notices, command))?;
-    put_all_unnamed(out, notices)?;
+    put_unnamed_unless(out, notices, command, audience)?;
     Ok(())
+}
+
+// Which devices were not named, where that was not shown before.
+fn put_unnamed_unless<S: Sink>(
+    out: &mut S,
+    notices: &Notices,
+    command: Command<'_>,
+    audience: Audience,
+) -> Result<(), SinkFault>
+    ensures { PutsOrFails S.contents S.failed out.old out.new
+        (unnamed_unless audience (ask_of command.entry) notices.now) result }
+{
+    if audience.was_shown && command.may_part() {
+        return out.put(b"");
+    }
+    put_all_unnamed(out, notices)
 }
 
 fn put_first_unless<S: Sink>(
@@ -597,6 +604,7 @@ pub fn put_told<S: Sink>(
     put_uncompared(out, notices, command, names)?;
     put_unreadable(out, command, notices)?;
     put_lost(out, command, audience)?;
+    put_unready(out, command, notices)?;
     Ok(())
 }
 

@@ -1,13 +1,13 @@
 // That what is written to sectors which no member in sync gives can't be read. No line takes memory.
 ghost use Rattle.std.specs.Prelude.{◌≡◌, ◌++◌};
-ghost use Rattle.md_examine.specs.Sink.{PutsOrFails};
+ghost use Rattle.md_streams.specs.Sink.{PutsOrFails};
 ghost use Rattle.md_notices.specs.Lines.{ungiven_text};
 ghost use Rattle.md_words.specs.Asks.{ask_of};
 ghost use Rattle.md_messages.specs.Unreadable.{unreadable_if_some, unreadable_lines};
 
 use crate::notices::Notices;
-use md_examine::{Sink, SinkFault};
 use md_notices::{Lost, ungiven_line};
+use md_streams::{Sink, SinkFault};
 use md_words::{ArrayCommand, Command};
 
 // That it can't be read, where there are such sectors.

@@ -1,5 +1,4 @@
 -- What a client and a server say to each other over a source and a sink of bytes.
-pub mod FrontFilled
 pub mod Exchanges
 pub mod RequestsTaken
 pub mod Told

@@ -6,7 +6,7 @@ ghost use Rattle.md_nbd.specs.Export.{transmission_flags_of};
 pub const MOST_BYTES: u32 = 0x2000000;
 
 /// The array, as clients are told of it.
-#[derive(Clone, Copy, Debug, PartialEq, Eq)]
+#[derive(Clone, Copy)]
 pub struct Export {
     /// In bytes.
     pub size: u64,

@@ -36,8 +36,7 @@ pub use option_head::{LONGEST_BODY, OPTION_HEAD_BYTES, decode_option_head};
 pub use reply::{ErrorCode, error_reply, success_reply};
 pub use request::{REQUEST_BYTES, Request, decode_request, payload_of, put_request};
 pub use server::{
-    ClientWatch, Gone, HaggleFault, Haggled, RefusedRequest, RequestFault, SessionEnd,
-    SessionFault, Store, StoreFault, StreamFault, answer_requests, fill_front, haggle, put,
-    refused_line, serve_client,
+    ClientWatch, Gone, Haggled, RefusedRequest, RequestFault, Service, SessionEnd, SessionFault,
+    Store, StoreFault, answer_requests, haggle, put, refused_line, serve_client,
 };
 pub use task::{Task, task_of};

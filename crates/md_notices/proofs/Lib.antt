@@ -8,3 +8,5 @@ pub mod SignatureLemmas
 pub mod HeldLemmas
 -- The chunks that no member in sync gives whole, chunk by chunk, member by member and run by run.
 pub mod UngivenLists
+-- A test of the numbers below a bound, as a loop makes it.
+pub mod Below

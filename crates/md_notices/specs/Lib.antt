@@ -22,3 +22,5 @@ pub mod LostSectors
 pub mod UngivenChunks
 -- The line on chunks that no member in sync gives whole.
 pub mod UngivenLine
+-- Whether a kernel may be given an array as it stands.
+pub mod Kernel

@@ -1,7 +1,7 @@
 -- The lines that say what was noticed: forms of this project's own. Names stand in them as they are shown.
 use Rattle.std.specs.Prelude.{ℕ, Bool, true, false, List, [], ◌++◌, Option, Some, None, codes, decimal}
 use Rattle.uuid.specs.Text.{hyphenated_text, lower}
-use Rattle.md_examine.specs.ShownNames.Shown.{shown}
+use Rattle.md_streams.specs.ShownNames.Shown.{shown}
 use Rattle.md_super.specs.declared.superblock.Superblock.{Superblock}
 use Rattle.md_assembly.specs.declared.state.MemberState.{MemberState}
 use Rattle.md_assembly.specs.declared.state.MemberState.TheVariants.{InSync, Recovering, Stale, Spare, Faulty}
@@ -68,7 +68,8 @@ unnamed_text number role =
 unfoldable pub forgotten_text : List ℕ → List ℕ
 forgotten_text name =
     codes "mdcli: " ++ shown name
-    ++ codes ": is in sync in this very array, and is not among the images\n"
+    ++ codes ": is in sync in this very array, and is not among the images: "
+    ++ codes "its data may be newer than theirs\n"
 
 unfoldable pub held_text : List ℕ → List ℕ → List ℕ
 held_text name what = codes "mdcli: " ++ shown name ++ codes ": holds " ++ what ++ codes "\n"

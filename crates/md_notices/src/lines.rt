@@ -1,11 +1,11 @@
 // The lines that say what was noticed.
 ghost use Rattle.std.specs.Prelude.{◌≡◌};
-ghost use Rattle.md_examine.specs.Sink.{PutsOrFails};
+ghost use Rattle.md_streams.specs.Sink.{PutsOrFails};
 ghost use Rattle.md_notices.specs.Lines.{chunks_lost_text, dropped_text, first_ungiven_text, forgotten_text, held_text, listed_text, lost_text, marked_line_text, parted_text, uncompared_text, ungiven_count_text, ungiven_sectors_text, ungiven_text, unnamed_text, unread_text, unseen_text, which_sectors, why_listed};
 
 use crate::lost_sectors::Lost;
 use md_assembly::MemberState;
-use md_examine::{Sink, SinkFault, number_after, put_name};
+use md_streams::{Sink, SinkFault, number_after, put_name};
 
 /// Says that an image was used without another one. It takes no memory, as no line does, and fails only where the
 /// sink has failed.
@@ -21,7 +21,7 @@ pub fn parted_line<S: Sink>(out: &mut S, name: &str, other: &str) -> Result<(), 
 }
 
 /// Says that a member dropped out, and how many of how many are in sync now.
-#[tactic(auto, unfolding(crate::specs::Lines::dropped_text), using(md_examine::proofs::Puts::puts_then))]
+#[tactic(auto, unfolding(crate::specs::Lines::dropped_text), using(md_streams::proofs::Puts::puts_then))]
 pub fn dropped_line<S: Sink>(
     out: &mut S,
     name: &str,
@@ -68,7 +68,7 @@ fn which_sectors(by_chunks: bool) -> &'static [u8]
 /// Says that a member lists more sectors as bad than before, and how many it lists now: one that was in sync, as reads of
 /// it failed, and one that gets what it lacks, as no member gave it. `was` is its state before, if it was there, and
 /// `by_chunks` says whether whole chunks were listed, which have good sectors too.
-#[tactic(auto, unfolding(crate::specs::Lines::listed_text), using(md_examine::proofs::Puts::puts_then))]
+#[tactic(auto, unfolding(crate::specs::Lines::listed_text), using(md_streams::proofs::Puts::puts_then))]
 pub fn listed_line<S: Sink>(
     out: &mut S,
     name: &str,
@@ -113,7 +113,7 @@ fn ungiven_count<S: Sink>(out: &mut S, count: u64) -> Result<(), SinkFault>
     Ok(())
 }
 
-#[tactic(auto, unfolding(crate::specs::Lines::first_ungiven_text), using(md_examine::proofs::Puts::puts_then))]
+#[tactic(auto, unfolding(crate::specs::Lines::first_ungiven_text), using(md_streams::proofs::Puts::puts_then))]
 fn first_ungiven<S: Sink>(out: &mut S, first: u64) -> Result<(), SinkFault>
     ensures { PutsOrFails S.contents S.failed out.old out.new (first_ungiven_text first) result }
 {
@@ -134,7 +134,7 @@ pub fn chunks_lost_line<S: Sink>(out: &mut S) -> Result<(), SinkFault>
 }
 
 /// Says that a device of the array is not among the images.
-#[tactic(auto, unfolding(crate::specs::Lines::unnamed_text), using(md_examine::proofs::Puts::puts_then))]
+#[tactic(auto, unfolding(crate::specs::Lines::unnamed_text), using(md_streams::proofs::Puts::puts_then))]
 pub fn unnamed_line<S: Sink>(out: &mut S, number: u32, role: u16) -> Result<(), SinkFault>
     ensures { PutsOrFails S.contents S.failed out.old out.new (unnamed_text number role) result }
 {
@@ -145,18 +145,19 @@ pub fn unnamed_line<S: Sink>(out: &mut S, number: u32, role: u16) -> Result<(), 
 }
 
 /// Says that an image which is to be added is in sync in the array that it is added to.
-#[tactic(auto, unfolding(crate::specs::Lines::forgotten_text), using(md_examine::proofs::Puts::puts_then))]
+#[tactic(auto, unfolding(crate::specs::Lines::forgotten_text), using(md_streams::proofs::Puts::puts_then))]
 pub fn forgotten_line<S: Sink>(out: &mut S, name: &str) -> Result<(), SinkFault>
     ensures { PutsOrFails S.contents S.failed out.old out.new (forgotten_text name.now) result }
 {
     out.put(b"mdcli: ")?;
     put_name(out, name)?;
-    out.put(b": is in sync in this very array, and is not among the images\n")?;
+    out.put(b": is in sync in this very array, and is not among the images: ")?;
+    out.put(b"its data may be newer than theirs\n")?;
     Ok(())
 }
 
 /// Says what an image holds, which is to be overwritten.
-#[tactic(auto, unfolding(crate::specs::Lines::held_text), using(md_examine::proofs::Puts::puts_then))]
+#[tactic(auto, unfolding(crate::specs::Lines::held_text), using(md_streams::proofs::Puts::puts_then))]
 pub fn held_line<S: Sink>(out: &mut S, name: &str, what: &str) -> Result<(), SinkFault>
     ensures { PutsOrFails S.contents S.failed out.old out.new (held_text name.now what.now) result }
 {
@@ -199,7 +200,7 @@ pub fn marked_line<S: Sink>(out: &mut S, name: &str) -> Result<(), SinkFault>
 }
 
 /// Says that an image is in sync alone, so that a check compared nothing.
-#[tactic(auto, unfolding(crate::specs::Lines::uncompared_text), using(md_examine::proofs::Puts::puts_then))]
+#[tactic(auto, unfolding(crate::specs::Lines::uncompared_text), using(md_streams::proofs::Puts::puts_then))]
 pub fn uncompared_line<S: Sink>(out: &mut S, name: &str) -> Result<(), SinkFault>
     ensures { PutsOrFails S.contents S.failed out.old out.new (uncompared_text name.now) result }
 {
@@ -210,7 +211,7 @@ pub fn uncompared_line<S: Sink>(out: &mut S, name: &str) -> Result<(), SinkFault
 }
 
 /// Says that what an image held is lost, which was added to the array.
-#[tactic(auto, unfolding(crate::specs::Lines::lost_text), using(md_examine::proofs::Puts::puts_then))]
+#[tactic(auto, unfolding(crate::specs::Lines::lost_text), using(md_streams::proofs::Puts::puts_then))]
 pub fn lost_line<S: Sink>(out: &mut S, name: &str) -> Result<(), SinkFault>
     ensures { PutsOrFails S.contents S.failed out.old out.new (lost_text name.now) result }
 {

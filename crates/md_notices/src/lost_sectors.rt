@@ -10,7 +10,7 @@ use md_badblocks::{BadSet, Run};
 use md_device::Device;
 
 /// How many sectors of an array all members in sync list as bad, and the first of them.
-#[derive(Clone, Copy, Debug)]
+#[derive(Clone, Copy)]
 pub struct Lost {
     pub count: u64,
     pub first: Option<u64>,

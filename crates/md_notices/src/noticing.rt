@@ -17,7 +17,7 @@ pub const MAX_ROLES: usize = 32;
 
 /// What a command was asked to do with a member: the place of one that left, which the others after it
 /// follow, and of one that it made faulty.
-#[derive(Clone, Copy, Debug)]
+#[derive(Clone, Copy)]
 pub struct Asked {
     pub left: Option<usize>,
     pub failed: Option<usize>,
@@ -84,7 +84,8 @@ pub fn states_of<D: Device + Drop>(mirror: &Mirror<D>) -> [Option<MemberState>; 
     states
 }
 
-fn is_place(place: Option<usize>, k: usize) -> bool
+/// Whether this is the place.
+pub fn is_place(place: Option<usize>, k: usize) -> bool
     ensures { result ≡ is_place place k }
 {
     match place {

@@ -1,12 +1,12 @@
 // The line that says of which array a device is.
 ghost use Rattle.std.specs.Prelude.{◌≡◌};
 ghost use Rattle.uuid.specs.Text.{hyphenated_text, lower};
-ghost use Rattle.md_examine.specs.Sink.{PutsOrFails};
+ghost use Rattle.md_streams.specs.Sink.{PutsOrFails};
 ghost use Rattle.md_notices.specs.Lines.{state_role_text, identity_text, there_text};
 
 use crate::belonging::standing;
 use md_assembly::MemberState;
-use md_examine::{Sink, SinkFault, number_after, put_name};
+use md_streams::{Sink, SinkFault, number_after, put_name};
 use md_super::Superblock;
 use uuid::Uuid;
 

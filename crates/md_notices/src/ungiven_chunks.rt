@@ -15,7 +15,7 @@ use md_device::Device;
 
 /// How many chunks a member lacks that no member in sync gives whole, and the first of them. A chunk has so many
 /// sectors, and only the last one may be shorter.
-#[derive(Clone, Copy, Debug)]
+#[derive(Clone, Copy)]
 pub struct UngivenChunks {
     pub count: u32,
     pub first: Option<u32>,

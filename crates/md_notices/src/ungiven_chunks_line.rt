@@ -1,10 +1,10 @@
 // The line on chunks that no member in sync gives whole.
 ghost use Rattle.std.specs.Prelude.{◌≡◌};
-ghost use Rattle.md_examine.specs.Sink.{PutsOrFails};
+ghost use Rattle.md_streams.specs.Sink.{PutsOrFails};
 ghost use Rattle.md_notices.specs.UngivenLine.{in_units, some_ungiven_text, ungiven_chunks_text, unit_text};
 
 use crate::ungiven_chunks::UngivenChunks;
-use md_examine::{Sink, SinkFault, number_after};
+use md_streams::{Sink, SinkFault, number_after};
 
 // The sectors of 1 MiB, and of 1 KiB.
 const MIB_SECTORS: u32 = 2048;

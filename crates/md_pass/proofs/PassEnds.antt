@@ -16,7 +16,7 @@ use Rattle.md_collect.specs.Reports.{Copying, is_planned}
 use Rattle.md_device.specs.Failing.{EachNewFault}
 use Rattle.md_device.proofs.Failing.{fails_weaker}
 use Rattle.md_collect.specs.declared.workers.queue.Queue.{Queue}
-use Rattle.md_collect.specs.declared.workers.gate.Gate.{Ghosts as GateGhosts}
+use Rattle.md_streams.specs.declared.gate.Gate.{Ghosts as GateGhosts}
 use Rattle.md_collect.specs.Workers.Gates.{IsTold, IsToldOfReads}
 use Rattle.md_collect.specs.Workers.Queues.{OnlyRead, AreOnlyRead, IsOfWaiting, is_failed}
 use Rattle.md_collect.proofs.WorkerLemmas.OnlyReads.{not_read}

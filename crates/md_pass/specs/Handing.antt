@@ -3,7 +3,7 @@ use Rattle.std.specs.Prelude.{◌≡◌, ℕ, ◌-◌, ◌<◌, ◌≤◌, ◌�
 use Rattle.std.specs.List.{All}
 use Rattle.md_device.specs.declared.device.Device.{Ghosts}
 use Rattle.md_bitmap.specs.declared.chunks.Chunks.{Chunks}
-use Rattle.md_collect.specs.declared.workers.gate.Gate.{Ghosts as GateGhosts}
+use Rattle.md_streams.specs.declared.gate.Gate.{Ghosts as GateGhosts}
 use Rattle.md_collect.specs.declared.workers.queue.Queue.{Queue}
 use Rattle.md_collect.specs.Workers.Gates.{IsToldOfReads}
 use Rattle.md_collect.specs.Workers.Queues.{HasWorked, slots_read}

@@ -12,11 +12,13 @@ ghost use Rattle.md_pass.specs.Passes.{IsPassing};
 
 use crate::joined::Joined;
 use crate::take_report::take_reports;
+use crate::turns::Turns;
 use md_bitmap::{Chunks, Marks};
-use md_collect::{Board, Collector, Gate, Queue, Reports, turn};
+use md_collect::{Collector, Queue, Reports, turn};
 use md_device::{Device, WriteFault};
+use md_streams::Gate;
+use std::sync::Wait;
 use std::sync::ledger::Ledger;
-use std::sync::{Mutex, Wait};
 use std::thread;
 use std::thread::Threads;
 
@@ -30,11 +32,7 @@ pub(crate) fn take_and_read<
     M: Ledger + Send + Sync,
     R: Threads + Wait + Sync,
 >(
-    rt: &'a R,
-    gate: &'a G,
-    board: &'a Mutex<Board<L, M>>,
-    chunks: Chunks,
-    most: usize,
+    turns: &'a Turns<'a, G, L, M, R>,
     collector: &'a mut Collector,
     target: &'a mut D,
     copied: &'a mut Marks,
@@ -42,12 +40,12 @@ pub(crate) fn take_and_read<
     waiting: &'a mut Vec<Reports>,
     queues: &'a mut Vec<Queue<D, L, M>>,
 ) -> Result<(), WriteFault>
-    requires ready { All (λ queue. IsReadyForTurn D.Device chunks most queue) queues.old.items }
+    requires ready { All (λ queue. IsReadyForTurn D.Device turns.now.chunks turns.now.most queue) queues.old.items }
     requires passing { (firsts : List (Queue D L M)) × (others : List (Queue D L M)) × (first : Books) × AreHanded others waiting.old.items
         × IsPassing D.Device (D.honest target.old) firsts (all_with_reports others waiting.old.items) first
         (books collector.old (D.content target.old) copied.old) }
 
-    ensures read { HaveRead D.Device G.Gate gate.now chunks most queues.old.items queues.new.items }
+    ensures read { HaveRead D.Device G.Gate turns.now.gate.now turns.now.chunks turns.now.most queues.old.items queues.new.items }
     ensures reports_taken { OnOk result (HaveTakenReports D.Device L M (D.honest target.old)
         (books collector.old (D.content target.old) copied.old)
         (books collector.new (D.content target.new) copied.new) waiting.old.items waiting.new.items) }
@@ -55,6 +53,11 @@ pub(crate) fn take_and_read<
     ensures failed { OnErr result (CountsFailure D.Device target.old target.new) }
     ensures writes { WritesBeside D.Device collector.old collector.new target.old target.new }
 {
+    let rt = turns.rt;
+    let gate = turns.gate;
+    let board = turns.board;
+    let chunks = turns.chunks;
+    let most = turns.most;
     let is_beside = is_worth_a_thread(chunks, queues.len());
     let mut read = ||
         requires { IsSend D.row × IsSync G.row × IsSend L.row × IsSync L.row × IsSend M.row × IsSync M.row × IsSync R.row

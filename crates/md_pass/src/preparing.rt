@@ -4,12 +4,12 @@ ghost use Rattle.md_collect.specs.Collecting.{ArePlanned};
 ghost use Rattle.md_pass.specs.Preparing.{IsPreparedFor};
 
 use crate::joined::Joined;
+use crate::pass::Pass;
 use crate::places::places_in_turn;
 use crate::readings::{count_readers, first_memory, readings_of};
-use crate::source::Source;
 use crate::source_reading::Reading;
 use md_bitmap::Chunks;
-use md_cert::{NoMemory, Plan};
+use md_cert::NoMemory;
 use md_collect::{Collector, Reports, batch_of};
 use std::alloc::Global;
 
@@ -32,22 +32,17 @@ pub(crate) struct Preparation {
     pub(crate) places: Vec<usize>,
 }
 
-/// Makes ready what a plan needs for a target whose data start at sector `offset` of its device.
-pub(crate) fn prepare(
-    alloc: Global,
-    plan: &Plan,
-    chunks: Chunks,
-    sources: &[Source],
-    offset: u64,
-) -> Result<Preparation, NoMemory>
-    requires planned { ArePlanned chunks plan.now.slots }
-    ensures { IfOk result (IsPreparedFor plan.now.slots chunks offset sources.now) }
+/// Prepares what a pass needs.
+pub(crate) fn prepare(alloc: Global, pass: &Pass<'_>) -> Result<Preparation, NoMemory>
+    requires planned { ArePlanned pass.now.chunks pass.now.plan.now.slots }
+    ensures { IfOk result (IsPreparedFor pass.now.plan.now.slots pass.now.chunks pass.now.offset pass.now.sources.now) }
 {
-    let slots = plan.slots.as_slice();
+    let chunks = pass.chunks;
+    let slots = pass.plan.slots.as_slice();
     let many = slots.len() as u32;
-    let collector = Collector::new(alloc, plan, chunks, offset)?;
-    let most = batch_of(chunks, count_readers(slots, sources));
-    let readings = readings_of(alloc, slots, sources, chunks, most)?;
+    let collector = Collector::new(alloc, pass.plan, chunks, pass.offset)?;
+    let most = batch_of(chunks, count_readers(slots, pass.sources));
+    let readings = readings_of(alloc, slots, pass.sources, chunks, most)?;
     let joined = Joined::none(alloc)?;
     let waiting = first_memory(alloc, readings.as_slice(), chunks, most)?;
     let places = places_in_turn(alloc, readings.as_slice())?;

@@ -14,11 +14,27 @@ use crate::hand_over::hand_over;
 use crate::joined::Joined;
 use crate::take_report::take_reports;
 use md_bitmap::{Chunks, Marks};
-use md_collect::{Board, Collector, Gate, Queue, Reports};
+use md_collect::{Board, Collector, Queue, Reports};
 use md_device::{Device, WriteFault};
+use md_streams::Gate;
 use std::sync::ledger::Ledger;
 use std::sync::{Mutex, Wait};
 use std::thread::Threads;
+
+/// The turns of a pass: how many there are, and how each queue is read in them.
+#[derive(Drop)]
+pub(crate) struct Turns<'a, G, L: Ledger, M: Ledger, R> {
+    /// What starts the threads of the workers.
+    pub(crate) rt: &'a R,
+    /// It is told of each read.
+    pub(crate) gate: &'a G,
+    /// It notes each slot that was read, and whether the read failed.
+    pub(crate) board: &'a Mutex<Board<L, M>>,
+    pub(crate) count: usize,
+    pub(crate) chunks: Chunks,
+    /// How many chunks a worker reads in a turn at most.
+    pub(crate) most: usize,
+}
 
 /// Goes turn by turn until each queue has read all of its chunks: the workers read the next chunks of each
 /// queue, and the collector takes meanwhile what they reported in the turn before. It takes no memory, so only
@@ -31,12 +47,7 @@ pub(crate) fn run_turns<
     M: Ledger + Send + Sync,
     R: Threads + Wait + Sync,
 >(
-    rt: &R,
-    gate: &G,
-    board: &Mutex<Board<L, M>>,
-    turns: usize,
-    chunks: Chunks,
-    most: usize,
+    turns: &Turns<'_, G, L, M, R>,
     collector: &mut Collector,
     target: &mut D,
     copied: &mut Marks,
@@ -44,9 +55,9 @@ pub(crate) fn run_turns<
     waiting: &mut Vec<Reports>,
     queues: &mut Vec<Queue<D, L, M>>,
 ) -> Result<(), WriteFault>
-    requires chunks { chunks ≡ collector.old.chunks }
-    requires turns { All (λ queue. length queue.chunks.items ≤ turns * most) queues.old.items }
-    requires memory { HaveMemory chunks most queues.old.items waiting.old.items }
+    requires chunks { turns.now.chunks ≡ collector.old.chunks }
+    requires turns { All (λ queue. length queue.chunks.items ≤ turns.now.count * turns.now.most) queues.old.items }
+    requires memory { HaveMemory turns.now.chunks turns.now.most queues.old.items waiting.old.items }
     requires fresh { IsPassing D.Device (D.honest target.old) queues.old.items queues.old.items
         (books collector.old (D.content target.old) copied.old) (books collector.old (D.content target.old) copied.old) }
 
@@ -56,16 +67,14 @@ pub(crate) fn run_turns<
         queues.new.items) }
     ensures failed { OnErr result (CountsFailure D.Device target.old target.new) }
     ensures told { OnOk result ((k : ℕ) (d : _) → k < length queues.old.items
-        → IsToldOfReads G.Gate gate.now (slice_index_or queues.old.items k d) (slice_index_or queues.new.items k d)) }
+        → IsToldOfReads G.Gate turns.now.gate.now (slice_index_or queues.old.items k d) (slice_index_or queues.new.items k d)) }
 
     ensures sources { QueuesOnlyRead D.Device queues.old.items queues.new.items }
     ensures target { KeepsBeside D.Device (copying collector.old) target.old target.new }
 {
-    for _turn in 0..turns {
+    for _turn in 0..turns.count {
         hand_over(queues, waiting);
-        take_and_read(
-            rt, gate, board, chunks, most, collector, target, copied, joined, waiting, queues,
-        )?;
+        take_and_read(&*turns, collector, target, copied, joined, waiting, queues)?;
     }
     hand_over(queues, waiting);
     take_reports::<D, L, M>(collector, target, copied, joined, waiting)

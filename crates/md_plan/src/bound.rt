@@ -6,7 +6,7 @@ ghost use Rattle.md_plan.specs.Bounds.{is_within, sum_sources};
 use md_cert::has_source;
 
 // A number of rounds, and sources that show that one less is too few.
-#[derive(Clone, Copy, Debug, PartialEq, Eq)]
+#[derive(Clone, Copy)]
 pub(crate) struct Bound {
     pub rounds: u32,
     pub sources: u32,

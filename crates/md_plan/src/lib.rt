@@ -35,4 +35,4 @@ mod search;
 mod shift;
 mod totals;
 
-pub use planner::{Planned, plan};
+pub use planner::plan;

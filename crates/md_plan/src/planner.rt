@@ -12,19 +12,8 @@ use crate::classes::{Classes, group};
 use crate::give_out::{Given, give_out};
 use crate::level::level;
 use crate::place::{add_loads, choose_sources};
-use md_cert::{Certificate, ChunkList, NoMemory, Plan, Row, Slots, Table};
+use md_cert::{ChunkList, NoMemory, Plan, Planned, Row, Slots, Table};
 use std::alloc::Global;
-
-/// A plan in the fewest rounds, what shows that fewer are too few, and the chunks that no source has.
-#[derive(Debug, Drop)]
-pub struct Planned {
-    /// Each chunk that some source has, in rising order, with its source and its round.
-    pub plan: Plan,
-    /// For one round fewer than the plan's: chunks with too few sources. It is empty where the plan has no rounds.
-    pub certificate: Certificate,
-    /// The chunks with an empty mask, in rising order. The plan leaves them out.
-    pub orphans: ChunkList,
-}
 
 /// Plans each chunk of a table that some source has, in the fewest rounds.
 ///

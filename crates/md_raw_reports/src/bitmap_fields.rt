@@ -1,7 +1,7 @@
 // The header of a bitmap as it stands, though it may be none.
 ghost use Rattle.std.specs.Prelude.{◌≡◌, ◌≤◌, ◌↔◌, length, true};
 ghost use Rattle.std.specs.List.{flat_map};
-ghost use Rattle.md_examine.specs.Sink.{PutsOrFails};
+ghost use Rattle.md_streams.specs.Sink.{PutsOrFails};
 ghost use Rattle.md_raw_reports.specs.BitmapFields.{IsBitmapFaultSeen, bitmap_all_text, counted_text, bitmap_fault_name, bitmap_fault_text, faults, header_text, part_text, read_text, bitmap_fault_stands, unread_marks_text};
 
 use crate::fields::{Field, Kind, field_lines};
@@ -9,8 +9,9 @@ use crate::raw_bitmap::{CountedMarks, RawBitmap, UnreadMarks};
 use crate::super_faults::super_fault_lines;
 use crate::super_fields::{unread_line, unreadable_line};
 use md_bitmap::{BitmapFault, has_few_chunks, is_chunk_size};
-use md_examine::{Sink, SinkFault, line, marks_line, unit_line};
+use md_examine::{line, marks_line, unit_line};
 use md_format::{u32_at, u64_at};
+use md_streams::{Sink, SinkFault};
 
 const MAGIC: u32 = 0x6d74_6962;
 
@@ -180,7 +181,7 @@ fn count_lines<S: Sink>(out: &mut S, marks: Option<CountedMarks>) -> Result<(), 
     }
 }
 
-#[tactic(auto, unfolding(crate::specs::BitmapFields::counted_text), using(md_examine::proofs::Puts::puts_then))]
+#[tactic(auto, unfolding(crate::specs::BitmapFields::counted_text), using(md_streams::proofs::Puts::puts_then))]
 fn counts<S: Sink>(out: &mut S, marks: CountedMarks) -> Result<(), SinkFault>
     ensures { PutsOrFails S.contents S.failed out.old out.new (counted_text (Some marks)) result }
 {
@@ -199,7 +200,7 @@ fn unread_marks<S: Sink>(out: &mut S, unread: Option<UnreadMarks>) -> Result<(),
     }
 }
 
-#[tactic(auto, unfolding(crate::specs::BitmapFields::unread_marks_text), using(md_examine::proofs::Puts::puts_then))]
+#[tactic(auto, unfolding(crate::specs::BitmapFields::unread_marks_text), using(md_streams::proofs::Puts::puts_then))]
 fn unread_from<S: Sink>(out: &mut S, unread: UnreadMarks) -> Result<(), SinkFault>
     ensures { PutsOrFails S.contents S.failed out.old out.new (unread_marks_text (Some unread)) result }
 {

@@ -1,11 +1,12 @@
 // Fields of a block of bytes as they stand, a line each.
 ghost use Rattle.std.specs.Prelude.{◌≤◌, length};
 ghost use Rattle.std.specs.List.{flat_map};
-ghost use Rattle.md_examine.specs.Sink.{PutsOrFails};
+ghost use Rattle.md_streams.specs.Sink.{PutsOrFails};
 ghost use Rattle.md_raw_reports.specs.Fields.{field_text};
 
-use md_examine::{Sink, SinkFault, hex_line, hex8_line, name_line, unit_line, uuid_line};
+use md_examine::{hex_line, hex8_line, name_line, unit_line, uuid_line};
 use md_format::{array_at, u8_at, u16_at, u32_at, u64_at, uuid_at};
+use md_streams::{Sink, SinkFault};
 
 // The low 40 bits of a time.
 const SECONDS: u64 = 1 << 40;

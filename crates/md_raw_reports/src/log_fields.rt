@@ -1,14 +1,15 @@
 // A bad block log as it stands, though it may be refused.
 ghost use Rattle.std.specs.Prelude.{◌≤◌, ◌*◌, ◌+◌, length};
 ghost use Rattle.std.specs.List.{flat_map};
-ghost use Rattle.md_examine.specs.Sink.{PutsOrFails};
+ghost use Rattle.md_streams.specs.Sink.{PutsOrFails};
 ghost use Rattle.md_raw_reports.specs.LogFields.{entries_there, entry_line, entry_text, log_all_text, lost_log_text, shift_fault, log_told_text};
 
 use crate::fields::{Field, Kind, field_lines};
 use crate::super_faults::super_fault_lines;
 use crate::super_fields::{unread_line, unreadable_line};
-use md_examine::{Sink, SinkFault, line, number_after, right_aligned_number};
+use md_examine::{line, right_aligned_number};
 use md_format::{u8_at, u64_at};
+use md_streams::{Sink, SinkFault, number_after};
 
 /// The most that a log's units may be shifted by.
 const MAX_SHIFT: u8 = 9;
@@ -68,7 +69,7 @@ pub fn examine_badblocks_all<S: Sink>(
 }
 
 // What the superblock says of the log, where it could be read.
-#[tactic(auto, unfolding(crate::specs::LogFields::log_told_text), using(md_examine::proofs::Puts::puts_then))]
+#[tactic(auto, unfolding(crate::specs::LogFields::log_told_text), using(md_streams::proofs::Puts::puts_then))]
 fn superblock_part<S: Sink>(
     out: &mut S,
     read: u32,
@@ -125,7 +126,7 @@ fn entry<S: Sink>(out: &mut S, area: &[u8], place: usize) -> Result<(), SinkFaul
     }
 }
 
-#[tactic(auto, unfolding(crate::specs::LogFields::entry_line), using(md_examine::proofs::Puts::puts_then))]
+#[tactic(auto, unfolding(crate::specs::LogFields::entry_line), using(md_streams::proofs::Puts::puts_then))]
 fn run_of_entry<S: Sink>(out: &mut S, place: usize, start: u64, len: u64) -> Result<(), SinkFault>
     ensures { PutsOrFails S.contents S.failed out.old out.new (entry_line place start len) result }
 {

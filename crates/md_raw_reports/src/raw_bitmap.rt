@@ -12,7 +12,7 @@ pub enum RawBitmap {
 }
 
 /// The marks of a bitmap, as far as they could be read.
-#[derive(Clone, Copy, Debug, PartialEq, Eq)]
+#[derive(Clone, Copy)]
 pub struct CountedMarks {
     /// The chunks, by the header.
     pub chunks: u32,
@@ -22,7 +22,7 @@ pub struct CountedMarks {
 }
 
 /// The marks that could not be read: those from this sector on, of so many chunks.
-#[derive(Clone, Copy, Debug, PartialEq, Eq)]
+#[derive(Clone, Copy)]
 pub struct UnreadMarks {
     pub sector: u64,
     pub chunks: u32,

@@ -3,12 +3,13 @@ ghost use Rattle.std.specs.Prelude.{◌≡◌, ◌<◌, ◌≤◌, ◌↔◌, tr
 ghost use Rattle.std.specs.List.{flat_map};
 ghost use Rattle.md_format.specs.Fields.{number_at};
 ghost use Rattle.md_super.specs.Profile.{unsupported_features};
-ghost use Rattle.md_examine.specs.Sink.{PutsOrFails};
+ghost use Rattle.md_streams.specs.Sink.{PutsOrFails};
 ghost use Rattle.md_raw_reports.specs.SuperFaults.{IsSuperFaultSeen, fault_line, super_fault_name, super_fault_text, faults_of, faults_text, is_seen, is_told, roles_read_in, super_fault_stands};
 
 use itoa::Buffer;
-use md_examine::{Sink, SinkFault, line, two_part_line};
+use md_examine::{line, two_part_line};
 use md_format::{u32_at, u64_at};
+use md_streams::{Sink, SinkFault};
 use md_super::{
     FEATURE_BAD_BLOCKS, FEATURE_BITMAP_OFFSET, FEATURE_RECOVERY_OFFSET, LEVEL, MAGIC,
     MAJOR_VERSION, MAX_RAID_DISKS, MAX_ROLES, SUPER_SECTOR, SuperFault, checksum,

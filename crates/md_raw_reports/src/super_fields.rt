@@ -1,19 +1,20 @@
 // A superblock as it stands, though it may be none.
 ghost use Rattle.std.specs.Prelude.{◌<◌, ◌≤◌};
 ghost use Rattle.std.specs.List.{flat_map};
-ghost use Rattle.md_examine.specs.Sink.{PutsOrFails};
+ghost use Rattle.md_streams.specs.Sink.{PutsOrFails};
 ghost use Rattle.md_raw_reports.specs.SuperFields.{all_text, fields_text, found_text, place_line, role_line, role_line_text, roles_there, computed_line, shown_text, unread_line_text, unreadable_line};
 
 use crate::fields::{Field, Kind, field_lines};
 use crate::super_faults::{roles_read_in, super_fault_lines};
 use itoa::Buffer;
-use md_examine::{Sink, SinkFault, hex8_line, line, sectors_line, three_part_line};
+use md_examine::{hex8_line, line, sectors_line, three_part_line};
 use md_format::{u16_at, u32_at};
+use md_streams::{Sink, SinkFault};
 use md_super::{SPARE, SUPER_SECTOR, checksum};
 use uuid::Uuid;
 
 /// What was found at another place of a device where a superblock of a set may stand. Places are in sectors.
-#[derive(Clone, Copy, Debug, PartialEq, Eq)]
+#[derive(Clone, Copy)]
 pub enum Found {
     /// No superblock.
     Nothing,

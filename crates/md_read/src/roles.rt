@@ -15,7 +15,7 @@ use md_device::Device;
 use md_kept_members::is_write_mostly;
 
 /// What came of reading some sectors in a role.
-#[derive(Clone, Copy, Debug, PartialEq, Eq)]
+#[derive(Clone, Copy)]
 pub(crate) enum Answer {
     /// The member in sync in the role gave all of them.
     All,

@@ -9,7 +9,7 @@ use md_array::Mirror;
 use md_device::Device;
 
 /// The member that a resync copies some sectors from.
-#[derive(Clone, Copy, Debug, PartialEq, Eq)]
+#[derive(Clone, Copy)]
 pub(crate) enum Source {
     /// All of them are copied from this one.
     Member(usize),
@@ -20,7 +20,7 @@ pub(crate) enum Source {
 }
 
 /// What came of reading some sectors from that member.
-#[derive(Clone, Copy, Debug, PartialEq, Eq)]
+#[derive(Clone, Copy)]
 pub(crate) enum SourceAnswer {
     /// It gave all of them.
     All,

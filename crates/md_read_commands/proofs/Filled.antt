@@ -29,13 +29,13 @@ use Rattle.md_resync.specs.declared.fault.ResyncFault.TheVariants.{ReadFault}
 use Rattle.md_state.specs.Rests.{Rests}
 use Rattle.md_state.specs.Requests.{AreInFlight}
 use Rattle.md_state.specs.View.{ArrayView, MirrorView, geometry_of}
-use Rattle.md_commands.specs.declared.fault.CommandFault.{CommandFault}
-use Rattle.md_commands.specs.declared.fault.CommandFault.TheVariants.{Read, Resync}
-use Rattle.md_read_commands.specs.declared.gaps.Gaps.{Gaps}
+use Rattle.md_refusals.specs.declared.fault.CommandFault.{CommandFault}
+use Rattle.md_refusals.specs.declared.fault.CommandFault.TheVariants.{Read, Resync}
+use Rattle.md_streams.specs.declared.gaps.Gaps.{Gaps}
 use Rattle.md_read_commands.specs.declared.way.Way.{Way}
 use Rattle.md_read_commands.specs.declared.way.Way.TheVariants.{Resynced, Unresynced}
 use Rattle.md_read_commands.specs.Filling.{FillsBlock, FillsContent, FillsFront, FillsMore, IsClear, IsFilled, IsGivenByRead, NotesOne, zeros}
-use Rattle.md_read_commands.specs.Gaps.{AreFit, AreFitGaps, HasBothGaps, IsGap, IsKeptAt, IsSameAt, no_gaps}
+use Rattle.md_streams.specs.Gaps.{AreFit, AreFitGaps, HasBothGaps, IsGap, IsKeptAt, IsSameAt, no_gaps}
 use Rattle.md_read_commands.specs.Others.{IsGivenByNoneInSync, IsGivenByOther, IsGivenByStandIn, IsNotGiven, IsTakenFromOther, IsTakenFromStandIn}
 use Rattle.md_nbd.specs.declared.server.store.StoreFault.TheVariants.{Lacks}
 use Rattle.md_read_commands.specs.Serving.{LacksAsTold, LacksSector}

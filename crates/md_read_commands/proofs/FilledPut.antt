@@ -1,17 +1,17 @@
 -- Filled pieces are put out, each once it is read.
 use Rattle.std.proofs.Common.{◌≡◌, ◌∙◌, inl, inr, ℕ, ◌+◌, ◌*◌, ◌/◌, ◌≤◌, true, List, [], ◌++◌, length, take, refl, sym, subst, arith, length-append, append-nil}
 use Rattle.std.proofs.Math.Seq.{take-append_seam}
-use Rattle.md_examine.specs.declared.sink.Sink.{Ghosts}
-use Rattle.md_examine.specs.Sink.{Flushes, Puts}
-use Rattle.md_examine.proofs.Puts.{puts_nothing, puts_then}
+use Rattle.md_streams.specs.declared.sink.Sink.{Ghosts}
+use Rattle.md_streams.specs.Sink.{Flushes, Puts}
+use Rattle.md_streams.proofs.Puts.{puts_nothing, puts_then}
 use Rattle.md_laws.proofs.Runs.Rests.{rests_same}
 use Rattle.md_state.specs.View.{MirrorView}
-use Rattle.md_commands.specs.declared.fault.CommandFault.{CommandFault}
-use Rattle.md_commands.specs.declared.fault.CommandFault.TheVariants.{NoPieceMemory, OutputFault}
-use Rattle.md_read_commands.specs.declared.gaps.Gaps.{Gaps}
+use Rattle.md_refusals.specs.declared.fault.CommandFault.{CommandFault}
+use Rattle.md_refusals.specs.declared.fault.CommandFault.TheVariants.{NoPieceMemory, OutputFault}
+use Rattle.md_streams.specs.declared.gaps.Gaps.{Gaps}
 use Rattle.md_read_commands.specs.declared.way.Way.{Way}
 use Rattle.md_read_commands.specs.Filling.{FillsMore, FillsSome, FillsSomeMore, FillsUnnoted, IsClear, PutsFilled, PutsFilledPiece, RefusesFilled, RefusesFilledPiece}
-use Rattle.md_read_commands.specs.Gaps.{HasNoGaps, no_gaps}
+use Rattle.md_streams.specs.Gaps.{HasNoGaps, no_gaps}
 use Rattle.md_read_commands.proofs.Filled.{clear_after, filled, fills_noted, fills_nothing, fills_then}
 use Rattle.md_read_commands.proofs.Noted.{bad_both, no_gaps_is}
 

@@ -3,8 +3,8 @@ use Rattle.std.proofs.Common.{ap, ◌∙◌, ◌≡◌, ◌⊎◌, ◌↔◌, in
 use Rattle.std.proofs.lemmas.List.Elements.{All-append, All-cons, All-nil}
 use Rattle.md_badblocks.specs.declared.run.Run.{Run}
 use Rattle.md_badblocks.specs.Runs.{IsBad, IsCanonical, RisesFrom}
-use Rattle.md_read_commands.specs.declared.gaps.Gaps.{Gaps}
-use Rattle.md_read_commands.specs.Gaps.{AreFit, HasBoth, HasBothGaps, HasNoGaps, HasSomeOf, IsGap, no_gaps}
+use Rattle.md_streams.specs.declared.gaps.Gaps.{Gaps}
+use Rattle.md_streams.specs.Gaps.{AreFit, HasBoth, HasBothGaps, HasNoGaps, HasSomeOf, IsGap, no_gaps}
 
 -- a set to which runs were added, of which the rest is to come
 abbrev pub IsJoinedTo : List Run → List Run → List Run → List Run → Type 0

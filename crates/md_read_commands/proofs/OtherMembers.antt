@@ -17,8 +17,8 @@ use Rattle.md_read.specs.Unresynced.{NoneGivesPart, SourceFails}
 use Rattle.md_read.proofs.InRoles.{ListsSome, failed_of}
 use Rattle.md_read.proofs.RunsRead.{has_not_given_earlier, has_not_given_later, held_earlier}
 use Rattle.md_resync.specs.declared.fault.ResyncFault.TheVariants.{ReadFault}
-use Rattle.md_commands.specs.declared.fault.CommandFault.{CommandFault}
-use Rattle.md_commands.specs.declared.fault.CommandFault.TheVariants.{Resync}
+use Rattle.md_refusals.specs.declared.fault.CommandFault.{CommandFault}
+use Rattle.md_refusals.specs.declared.fault.CommandFault.TheVariants.{Resync}
 use Rattle.md_read_commands.specs.Others.{AsksMember, AsksOthers, AsksStandIn, AsksStandIns, GivesAlone, GivesFirstStandIn, GivesOther, IsGivenByNoneInSync, NoOtherGives, NoStandInGives}
 use Rattle.md_read_commands.specs.StandIn.{GivesAsStandIn, IsStandIn}
 

@@ -2,14 +2,15 @@
 use Rattle.std.proofs.Common.{◌≡◌, ◌∙◌, inl, inr, ⊎_elim, ℕ, ◌+◌, ◌*◌, ◌-◌, ◌/◌, ◌%◌, ◌<◌, ◌≤◌, true, List, [], ◌++◌, length, take, refl, sym, subst, arith, length-append, append-nil}
 use Rattle.std.specs.Prelude.{MatchResult, Result, Ok, Err}
 use Rattle.md_array.specs.Consistency.{IsConsistent}
-use Rattle.md_examine.specs.declared.sink.Sink.{Ghosts}
-use Rattle.md_examine.specs.Sink.{Flushes, Puts}
-use Rattle.md_examine.proofs.Puts.{puts_nothing, puts_then}
+use Rattle.md_streams.specs.declared.sink.Sink.{Ghosts}
+use Rattle.md_streams.specs.Sink.{Flushes, Puts}
+use Rattle.md_streams.specs.Putting.{PutsOut}
+use Rattle.md_streams.proofs.Puts.{puts_nothing, puts_then}
 use Rattle.md_state.specs.View.{MirrorView}
-use Rattle.md_commands.specs.declared.fault.CommandFault.{CommandFault}
-use Rattle.md_commands.specs.declared.fault.CommandFault.TheVariants.{OutputFault}
+use Rattle.md_refusals.specs.declared.fault.CommandFault.{CommandFault}
+use Rattle.md_refusals.specs.declared.fault.CommandFault.TheVariants.{OutputFault}
 use Rattle.md_read_commands.specs.declared.way.Way.{Way}
-use Rattle.md_commands.specs.Output.{FailsOutput, PutsOut}
+use Rattle.md_refusals.specs.Output.{FailsOutput}
 use Rattle.md_read_commands.specs.Pieces.{PutsFront, PutsPiece, PutsPieceUpTo, PutsSectors, ReadsSectors, ReadsUpTo, RefusesPiece, RefusesSectors, piece_sectors}
 use Rattle.md_read_commands.specs.Ways.{EndsReading, ReadsBy}
 use Rattle.md_read_commands.proofs.PiecesRead.{nothing_read, one_read, read_up_to, sectors_read}

@@ -4,7 +4,7 @@ use Rattle.std.specs.List.{concat}
 use Rattle.std.proofs.lemmas.Bool.{cases_lt}
 use Rattle.md_array.specs.Consistency.{IsConsistent}
 use Rattle.md_state.specs.View.{MirrorView}
-use Rattle.md_commands.specs.declared.fault.CommandFault.{CommandFault}
+use Rattle.md_refusals.specs.declared.fault.CommandFault.{CommandFault}
 use Rattle.md_read_commands.specs.declared.way.Way.{Way}
 use Rattle.md_read_commands.specs.Pieces.{ReadsPiece, ReadsPieces, ReadsSectors, ReadsUpTo}
 use Rattle.md_read_commands.specs.Ways.{EndsReading, ReadsBy}

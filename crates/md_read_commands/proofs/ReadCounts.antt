@@ -3,11 +3,11 @@ use Rattle.std.proofs.Common.{◌∙◌, ⊎_elim, ℕ, ◌+◌, ◌/◌, Bool, 
 use Rattle.md_state.specs.View.{MirrorView}
 use Rattle.md_read.specs.declared.fault.UnreadFault.TheVariants as unread
 use Rattle.md_resync.specs.declared.fault.ResyncFault.TheVariants as resync
-use Rattle.md_examine.specs.declared.sink.Sink.{Ghosts as SinkGhosts}
-use Rattle.md_commands.specs.declared.fault.CommandFault.{CommandFault}
-use Rattle.md_commands.specs.declared.fault.CommandFault.TheVariants.{NoPieceMemory, OutputFault, Read, Resync}
+use Rattle.md_streams.specs.declared.sink.Sink.{Ghosts as SinkGhosts}
+use Rattle.md_refusals.specs.declared.fault.CommandFault.{CommandFault}
+use Rattle.md_refusals.specs.declared.fault.CommandFault.TheVariants.{NoPieceMemory, OutputFault, Read, Resync}
 use Rattle.md_commands.proofs.DeviceCounts.{AsMany, not_readied, readied, refused, same}
-use Rattle.md_read_commands.specs.declared.gaps.Gaps.{Gaps}
+use Rattle.md_streams.specs.declared.gaps.Gaps.{Gaps}
 use Rattle.md_read_commands.specs.declared.way.Way.{Way}
 use Rattle.md_read_commands.specs.declared.way.Way.TheVariants.{Resynced}
 use Rattle.md_read_commands.specs.Filling.{FillsSome, PutsAll, ReadsFilled, RefusesToFill}

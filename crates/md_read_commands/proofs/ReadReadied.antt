@@ -1,7 +1,7 @@
 -- Sectors are read after a resync, where one was needed.
 use Rattle.std.proofs.Common.{◌≡◌, ◌∙◌, ◌&&◌, ℕ, Bool, true, false, not, refl, sym, ap, subst}
 use Rattle.std.specs.Prelude.{MatchResult, Result, Ok, Err}
-use Rattle.md_examine.specs.declared.sink.Sink.{Ghosts}
+use Rattle.md_streams.specs.declared.sink.Sink.{Ghosts}
 use Rattle.md_read.specs.declared.fault.UnreadFault.{UnreadFault}
 use Rattle.md_read.specs.declared.fault.UnreadFault.TheVariants.{Halted, NotResynced, OutOfRange, Unreadable}
 use Rattle.md_resync.specs.declared.fault.ResyncFault.TheVariants.{ReadFault}
@@ -9,14 +9,14 @@ use Rattle.md_resync.proofs.Told.{resynced_array}
 use Rattle.md_state.specs.Members.{is_degraded}
 use Rattle.md_state.specs.Trying.{Refuses}
 use Rattle.md_state.specs.View.{ArrayView, MirrorView}
-use Rattle.md_commands.specs.declared.fault.CommandFault.{CommandFault}
-use Rattle.md_commands.specs.declared.fault.CommandFault.TheVariants.{NoPieceMemory, OutputFault, Read, Resync}
+use Rattle.md_refusals.specs.declared.fault.CommandFault.{CommandFault}
+use Rattle.md_refusals.specs.declared.fault.CommandFault.TheVariants.{NoPieceMemory, OutputFault, Read, Resync}
 use Rattle.md_read_commands.specs.Filling.{FillsArray, IsFirstGap, PutsAll, PutsFilled, RefusesFilled, RefusesToFill}
 use Rattle.md_read_commands.specs.Pieces.{PutsSectors, RefusesSectors}
 use Rattle.md_read_commands.specs.Reading.{IsReadied, IsReadyTo, IsWayFor, MayReadArray, MustBeResynced, ReadsArray, ReadsReadonly, RefusesReadonly, RefusesReady, RefusesToRead}
 use Rattle.md_commands.specs.Resyncing.{ResyncsIfNeeded, needs_resync}
-use Rattle.md_read_commands.specs.declared.gaps.Gaps.{Gaps}
-use Rattle.md_read_commands.specs.Gaps.{HasNoGaps}
+use Rattle.md_streams.specs.declared.gaps.Gaps.{Gaps}
+use Rattle.md_streams.specs.Gaps.{HasNoGaps}
 use Rattle.md_read_commands.specs.declared.way.Way.{Way}
 use Rattle.md_read_commands.specs.declared.way.Way.TheVariants.{Resynced, Unresynced}
 use Rattle.md_read_commands.specs.Ways.{MayReadBy}

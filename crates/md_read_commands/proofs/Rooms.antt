@@ -1,7 +1,7 @@
 -- Room for sectors that are not given.
 use Rattle.std.proofs.Common.{◌≡◌, ◌∙◌, ℕ, ◌<◌, ◌≤◌, arith}
-use Rattle.md_read_commands.specs.declared.gaps.Holes.{Holes}
-use Rattle.md_read_commands.specs.Gaps.{HasFewMore, HasRoomForMore, HasSameRoom, capacity_of}
+use Rattle.md_read_commands.specs.declared.holes.Holes.{Holes}
+use Rattle.md_read_commands.specs.Holes.{HasFewMore, HasRoomForMore, HasSameRoom, capacity_of}
 
 pub same_room_then : (old mid new : Holes) → HasSameRoom old mid → HasSameRoom mid new → HasSameRoom old new
 same_room_then old mid new first second = (second.0 ∙ first.0, second.1 ∙ first.1)

@@ -8,16 +8,15 @@ use Rattle.md_state.specs.Rests.{Rests}
 use Rattle.md_state.specs.View.{MirrorView}
 use Rattle.md_read.specs.declared.fault.UnreadFault.{UnreadFault}
 use Rattle.md_read.specs.declared.fault.UnreadFault.TheVariants.{Unreadable}
-use Rattle.md_examine.specs.declared.sink.Sink.{Ghosts as Sinks}
-use Rattle.md_examine.specs.Sink.{Flushes}
-use Rattle.md_commands.specs.declared.fault.CommandFault.TheVariants.{Read}
-use Rattle.md_commands.specs.declared.source.Source.{Ghosts as Sources}
+use Rattle.md_streams.specs.declared.sink.Sink.{Ghosts as Sinks}
+use Rattle.md_streams.specs.Sink.{Flushes}
+use Rattle.md_refusals.specs.declared.fault.CommandFault.TheVariants.{Read}
+use Rattle.md_streams.specs.declared.source.Source.{Ghosts as Sources}
 use Rattle.md_nbd.specs.declared.export.Export.{Export}
 use Rattle.md_nbd.specs.declared.server.session.SessionEnd.{SessionEnd}
 use Rattle.md_nbd.specs.declared.server.session.SessionEnd.TheVariants.{NoFlags, UnknownFlags, Unagreed, Gone}
-use Rattle.md_nbd.specs.declared.server.session.SessionFault.{SessionFault}
-use Rattle.md_nbd.specs.declared.server.transmission.StreamFault.{StreamFault}
-use Rattle.md_nbd.specs.declared.server.transmission.StreamFault.TheVariants as stream
+use Rattle.md_nbd.specs.declared.server.session_fault.SessionFault.{SessionFault}
+use Rattle.md_nbd.specs.declared.server.session_fault.SessionFault.TheVariants as stream
 use Rattle.md_nbd.specs.declared.task.Task.{Task}
 use Rattle.md_nbd.specs.declared.task.Task.TheVariants as task
 use Rattle.md_nbd.specs.Export.{sector_bytes}
@@ -25,12 +24,13 @@ use Rattle.md_nbd.specs.NbdTasks.{task_of}
 use Rattle.md_nbd.specs.Server.Exchanges.{AnswersInTurn, DoesTask, Exchange}
 use Rattle.md_nbd.specs.Server.Sessions.{BreaksSession, EndsSession, is_orderly}
 use Rattle.md_nbd.specs.Server.Transmission.{HasFailed}
-use Rattle.md_read_commands.specs.declared.gaps.Gaps.{Gaps}
+use Rattle.md_streams.specs.declared.gaps.Gaps.{Gaps}
 use Rattle.md_read_commands.specs.declared.reader.ArrayReader.{ArrayReader}
 use Rattle.md_read_commands.specs.declared.way.Way.{Way}
 use Rattle.md_read_commands.specs.declared.way.Way.TheVariants.{Resynced, Unresynced}
 use Rattle.md_read_commands.specs.Filling.{IsFilled, IsFirstGap}
-use Rattle.md_read_commands.specs.Gaps.{IsGap, capacity_of, no_gaps}
+use Rattle.md_streams.specs.Gaps.{IsGap, no_gaps}
+use Rattle.md_read_commands.specs.Holes.{capacity_of}
 use Rattle.md_read_commands.specs.Others.{IsNotGiven, IsTakenFromOther}
 use Rattle.md_read_commands.specs.Ways.{ReadsBy}
 use Rattle.md_nbd.specs.declared.server.store.StoreFault.{StoreFault}
@@ -142,7 +142,7 @@ module _ {I S : Type 0} (i : Sources I) (o : Sinks S) (e : Export) (old new : Ar
   session_rests (Unagreed why) h = same_rests old new h.store
   session_rests (Gone why) h = in_turn_rests e old h.transmits.exchanges new h.transmits.answered.runs
 
-  failed_rests : (mid : ArrayReader × MirrorView) (at : I) (earlier : S) (why : StreamFault) → HasFailed reader_store i o e mid new at to earlier now why → Rests mid.1 new.1
+  failed_rests : (mid : ArrayReader × MirrorView) (at : I) (earlier : S) (why : SessionFault) → HasFailed reader_store i o e mid new at to earlier now why → Rests mid.1 new.1
   failed_rests mid at earlier stream.Source h = same_rests mid new h.1
   failed_rests mid at earlier stream.NoMemory h = same_rests mid new h.0
   failed_rests mid at earlier stream.Sink h = task_rests (task_of e h.last.request) h.last.request.cookie h.last.payload mid new h.last.reply h.answers.does
@@ -153,7 +153,7 @@ module _ {I S : Type 0} (i : Sources I) (o : Sinks S) (e : Export) (old new : Ar
   broken_rests fault (inr (inr h)) =
       rests_then old.1 h.breaks.mid.1 new.1
       (in_turn_rests e old h.breaks.exchanges h.breaks.mid h.breaks.answered.runs)
-      (failed_rests h.breaks.mid h.breaks.at h.breaks.before h.why h.breaks.failed)
+      (failed_rests h.breaks.mid h.breaks.at h.breaks.before fault h.breaks.failed)
 
 -- ---- the command
 -- what clients are told of, by the mirror's chunks

@@ -2,8 +2,8 @@
 use Rattle.std.proofs.Common.{◌≡◌, inl, inr, ℕ, List, [], subst}
 use Rattle.md_badblocks.specs.declared.run.Run.{Run}
 use Rattle.md_badblocks.specs.Runs.{IsBad}
-use Rattle.md_read_commands.specs.declared.gaps.Gaps.{Gaps}
-use Rattle.md_read_commands.specs.Gaps.{AreTold, HasBoth, HasBothGaps, HasNoGaps, HasSomeGapsOf, HasSomeOf}
+use Rattle.md_streams.specs.declared.gaps.Gaps.{Gaps}
+use Rattle.md_streams.specs.Gaps.{AreTold, HasBoth, HasBothGaps, HasNoGaps, HasSomeGapsOf, HasSomeOf}
 
 module _ (Told : ℕ → Type 0) where
   none_told : (runs : List Run) → runs ≡ [] → (s : ℕ) → IsBad runs s → Told s

@@ -14,8 +14,8 @@ use Rattle.md_read.proofs.RunsInTurn.{gives_later, gives_then}
 use Rattle.md_resync.specs.declared.fault.ResyncFault.TheVariants.{ReadFault}
 use Rattle.md_state.specs.Rests.{Rests}
 use Rattle.md_state.specs.View.{ArrayView, MirrorView}
-use Rattle.md_commands.specs.declared.fault.CommandFault.{CommandFault}
-use Rattle.md_commands.specs.declared.fault.CommandFault.TheVariants.{Read, Resync}
+use Rattle.md_refusals.specs.declared.fault.CommandFault.{CommandFault}
+use Rattle.md_refusals.specs.declared.fault.CommandFault.TheVariants.{Read, Resync}
 use Rattle.md_read_commands.specs.declared.way.Way.{Way}
 use Rattle.md_read_commands.specs.declared.way.Way.TheVariants.{Resynced, Unresynced}
 use Rattle.md_read_commands.specs.Ways.{EndsReading, MayReadBy, ReadsBy}

@@ -7,8 +7,9 @@ use Rattle.md_badblocks.specs.Runs.{IsBad}
 use Rattle.md_device.specs.Device.{held}
 use Rattle.md_model.specs.Content.{Content, HoldsAtRest}
 use Rattle.md_model.specs.Worlds.{IsQuiet, Request}
-use Rattle.md_examine.specs.declared.sink.Sink.{Ghosts}
-use Rattle.md_examine.specs.Sink.{Puts}
+use Rattle.md_streams.specs.declared.sink.Sink.{Ghosts}
+use Rattle.md_streams.specs.Sink.{Puts}
+use Rattle.md_streams.specs.Putting.{PutsOut}
 use Rattle.md_read.specs.declared.fault.UnreadFault.{UnreadFault}
 use Rattle.md_read.specs.declared.fault.UnreadFault.TheVariants.{Halted, NotResynced, OutOfRange, Unreadable}
 use Rattle.md_read.specs.Reading.{HasReadFailed, NoneGives}
@@ -19,13 +20,12 @@ use Rattle.md_state.specs.Requests.{AreInFlight}
 use Rattle.md_state.specs.Rests.{Rests}
 use Rattle.md_state.specs.View.{MirrorView, geometry_of}
 use Rattle.md_array.specs.Worlds.{AreHonest, world_of}
-use Rattle.md_commands.specs.declared.fault.CommandFault.{CommandFault}
-use Rattle.md_commands.specs.declared.fault.CommandFault.TheVariants.{NoPieceMemory, OutputFault, Read, Resync}
-use Rattle.md_read_commands.specs.declared.gaps.Gaps.{Gaps}
+use Rattle.md_refusals.specs.declared.fault.CommandFault.{CommandFault}
+use Rattle.md_refusals.specs.declared.fault.CommandFault.TheVariants.{NoPieceMemory, OutputFault, Read, Resync}
+use Rattle.md_streams.specs.declared.gaps.Gaps.{Gaps}
 use Rattle.md_read_commands.specs.declared.way.Way.{Way}
 use Rattle.md_read_commands.specs.declared.way.Way.TheVariants.{Resynced}
-use Rattle.md_commands.specs.Output.{PutsOut}
-use Rattle.md_read_commands.specs.Gaps.{AreFit, HasNoGaps, HasSomeGapsOf, IsGap, IsKeptAt, IsSameAt, no_gaps}
+use Rattle.md_streams.specs.Gaps.{AreFit, HasNoGaps, HasSomeGapsOf, IsGap, IsKeptAt, IsSameAt, no_gaps}
 use Rattle.md_read_commands.specs.Others.{IsGivenByNoOther, IsGivenByOther, IsNotGiven, IsTakenFromOther}
 use Rattle.md_read_commands.specs.Reading.{IsReadyTo, RefusesReady}
 use Rattle.md_read_commands.specs.Ways.{ReadsBy}

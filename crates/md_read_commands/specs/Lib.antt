@@ -4,8 +4,8 @@ pub mod AsResynced
 pub mod Filling
 -- A device of which the first sectors stand in memory.
 pub mod Fronted
--- Which sectors were not given in the way in which they were read.
-pub mod Gaps
+-- The gaps of one piece or request, before they are noted beside earlier ones.
+pub mod Holes
 -- A sector is read from another member than the one from which a resync would copy it, or from one whose superblock was made in memory.
 pub mod Others
 -- Sectors of the array are read and put out piece by piece.

@@ -10,8 +10,8 @@ use Rattle.md_state.specs.View.{MirrorView}
 use Rattle.md_read.specs.Reading.{HasNotGiven, NoneGives}
 use Rattle.md_read.specs.Unresynced.{NoneGivesPart, SourceFails}
 use Rattle.md_resync.specs.declared.fault.ResyncFault.TheVariants.{ReadFault}
-use Rattle.md_commands.specs.declared.fault.CommandFault.{CommandFault}
-use Rattle.md_commands.specs.declared.fault.CommandFault.TheVariants.{Resync}
+use Rattle.md_refusals.specs.declared.fault.CommandFault.{CommandFault}
+use Rattle.md_refusals.specs.declared.fault.CommandFault.TheVariants.{Resync}
 use Rattle.md_read_commands.specs.StandIn.{GivesAsStandIn, IsStandIn}
 use Rattle.md_read_commands.specs.declared.way.Way.{Way}
 use Rattle.md_read_commands.specs.declared.way.Way.TheVariants.{Resynced, Unresynced}

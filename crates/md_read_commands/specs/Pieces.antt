@@ -1,13 +1,13 @@
 -- Sectors of the array are read and put out piece by piece.
 use Rattle.std.specs.Prelude.{◌≡◌, ◌⊎◌, ℕ, ◌+◌, ◌*◌, ◌-◌, ◌/◌, ◌%◌, ◌<◌, ◌≤◌, true, List, [], ◌∷◌, ◌++◌, length, take}
 use Rattle.std.specs.List.{concat}
-use Rattle.md_examine.specs.declared.sink.Sink.{Ghosts}
-use Rattle.md_examine.specs.Sink.{Puts}
+use Rattle.md_streams.specs.declared.sink.Sink.{Ghosts}
+use Rattle.md_streams.specs.Sink.{Puts}
+use Rattle.md_streams.specs.Putting.{PutsOut}
 use Rattle.md_state.specs.View.{MirrorView}
-use Rattle.md_commands.specs.declared.fault.CommandFault.{CommandFault}
-use Rattle.md_commands.specs.declared.fault.CommandFault.TheVariants.{NoPieceMemory, OutputFault}
+use Rattle.md_refusals.specs.declared.fault.CommandFault.{CommandFault}
+use Rattle.md_refusals.specs.declared.fault.CommandFault.TheVariants.{NoPieceMemory, OutputFault}
 use Rattle.md_read_commands.specs.declared.way.Way.{Way}
-use Rattle.md_commands.specs.Output.{PutsOut}
 use Rattle.md_read_commands.specs.Ways.{EndsReading, ReadsBy}
 
 -- a piece has so many sectors at most: 1 MiB

@@ -1,6 +1,6 @@
 -- The command that reads an array.
 use Rattle.std.specs.Prelude.{◌≡◌, ℕ, Bool, true, false}
-use Rattle.md_examine.specs.declared.sink.Sink.{Ghosts}
+use Rattle.md_streams.specs.declared.sink.Sink.{Ghosts}
 use Rattle.md_resync.specs.declared.fault.ResyncFault.TheVariants.{ReadFault}
 use Rattle.md_read.specs.declared.fault.UnreadFault.{UnreadFault}
 use Rattle.md_read.specs.declared.fault.UnreadFault.TheVariants.{Halted, NotResynced, OutOfRange, Unreadable}
@@ -8,8 +8,8 @@ use Rattle.md_state.specs.Steps.Begin.{IsInRange, IsOutOfRange}
 use Rattle.md_state.specs.Members.{is_degraded}
 use Rattle.md_state.specs.Trying.{Refuses, RefusesHalted}
 use Rattle.md_state.specs.View.{ArrayView, MirrorView}
-use Rattle.md_commands.specs.declared.fault.CommandFault.{CommandFault}
-use Rattle.md_commands.specs.declared.fault.CommandFault.TheVariants.{NoPieceMemory, OutputFault, Read, Resync}
+use Rattle.md_refusals.specs.declared.fault.CommandFault.{CommandFault}
+use Rattle.md_refusals.specs.declared.fault.CommandFault.TheVariants.{NoPieceMemory, OutputFault, Read, Resync}
 use Rattle.md_read_commands.specs.Pieces.{PutsSectors, RefusesSectors}
 use Rattle.md_commands.specs.Resyncing.{RefusesNeededResync, ResyncsIfNeeded, needs_resync}
 use Rattle.md_read_commands.specs.declared.way.Way.{Way}

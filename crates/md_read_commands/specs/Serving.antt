@@ -4,26 +4,27 @@ use Rattle.md_array.specs.Consistency.{IsConsistent}
 use Rattle.md_state.specs.Rests.{Rests}
 use Rattle.md_state.specs.View.{ArrayView, MirrorView}
 use Rattle.md_read.specs.declared.fault.UnreadFault.TheVariants.{Unreadable}
-use Rattle.md_examine.specs.declared.sink.Sink.{Ghosts as Sinks}
-use Rattle.md_commands.specs.declared.fault.CommandFault.{CommandFault}
-use Rattle.md_commands.specs.declared.fault.CommandFault.TheVariants.{InputFault, NoPieceMemory, OutputFault, Read}
-use Rattle.md_commands.specs.declared.source.Source.{Ghosts as Sources}
-use Rattle.md_commands.specs.Output.{PutsOut}
+use Rattle.md_streams.specs.declared.sink.Sink.{Ghosts as Sinks}
+use Rattle.md_refusals.specs.declared.fault.CommandFault.{CommandFault}
+use Rattle.md_refusals.specs.declared.fault.CommandFault.TheVariants.{InputFault, NoPieceMemory, OutputFault, Read}
+use Rattle.md_streams.specs.declared.source.Source.{Ghosts as Sources}
+use Rattle.md_streams.specs.Putting.{PutsOut}
 use Rattle.md_nbd.specs.declared.export.Export.{Export}
 use Rattle.md_nbd.specs.declared.server.session.SessionEnd.{SessionEnd}
-use Rattle.md_nbd.specs.declared.server.session.SessionFault.{SessionFault}
-use Rattle.md_nbd.specs.declared.server.session.SessionFault.TheVariants as session
+use Rattle.md_nbd.specs.declared.server.session_fault.SessionFault.{SessionFault}
+use Rattle.md_nbd.specs.declared.server.session_fault.SessionFault.TheVariants as session
 use Rattle.md_nbd.specs.declared.server.store.Store.{Ghosts as Stores}
 use Rattle.md_nbd.specs.declared.server.store.StoreFault.{StoreFault}
 use Rattle.md_nbd.specs.declared.server.store.StoreFault.TheVariants.{Lacks, NoMemory, NotWritten}
 use Rattle.md_nbd.specs.Export.{most_bytes, sector_bytes}
 use Rattle.md_nbd.specs.Server.Sessions.{BreaksSession, EndsSession, is_orderly}
-use Rattle.md_read_commands.specs.declared.gaps.Gaps.{Gaps}
+use Rattle.md_streams.specs.declared.gaps.Gaps.{Gaps}
 use Rattle.md_read_commands.specs.declared.reader.ArrayReader.{ArrayReader}
 use Rattle.md_read_commands.specs.declared.way.Way.{Way}
 use Rattle.md_read_commands.specs.Filling.{IsFilled, IsLeastGap}
 use Rattle.md_read_commands.specs.Others.{IsNotGiven}
-use Rattle.md_read_commands.specs.Gaps.{HasBothGaps, HasNoGaps, HasSameRoom, IsGap, capacity_of}
+use Rattle.md_streams.specs.Gaps.{HasBothGaps, HasNoGaps, IsGap}
+use Rattle.md_read_commands.specs.Holes.{HasSameRoom, capacity_of}
 use Rattle.md_read_commands.specs.Reading.{IsReadyTo, RefusesReady}
 use Rattle.md_read_commands.specs.Ways.{IsFor, ReadsBy}
 

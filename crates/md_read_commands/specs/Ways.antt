@@ -7,8 +7,8 @@ use Rattle.md_read.specs.Reading.{Reads, RefusesRead}
 use Rattle.md_read.specs.Unresynced.{MayReadSectors, ReadsUnresynced, RefusesUnresynced}
 use Rattle.md_resync.specs.declared.fault.ResyncFault.TheVariants.{ReadFault}
 use Rattle.md_state.specs.View.{ArrayView, MirrorView}
-use Rattle.md_commands.specs.declared.fault.CommandFault.{CommandFault}
-use Rattle.md_commands.specs.declared.fault.CommandFault.TheVariants.{Read, Resync}
+use Rattle.md_refusals.specs.declared.fault.CommandFault.{CommandFault}
+use Rattle.md_refusals.specs.declared.fault.CommandFault.TheVariants.{Read, Resync}
 use Rattle.md_read_commands.specs.declared.way.Way.{Way}
 use Rattle.md_read_commands.specs.declared.way.Way.TheVariants.{Resynced, Unresynced}
 

@@ -4,24 +4,24 @@ ghost use Rattle.std.specs.Prelude.{◌≡◌, ◌+◌, ◌*◌, ◌/◌, ◌%�
 ghost use Rattle.md_inflight.specs.Requests.Pending.{PendingView};
 ghost use Rattle.md_state.specs.Requests.{IsPending};
 ghost use Rattle.md_array.specs.Consistency.{IsConsistent};
-ghost use Rattle.md_examine.specs.Sink.{PutsOrFails};
+ghost use Rattle.md_streams.specs.Sink.{PutsOrFails};
 ghost use Rattle.md_read_commands.specs.Filling.{FillsBlock, FillsFront, FillsMore, IsClear, NotesOne, PutsFilled, PutsFilledPiece, RefusesFilled, RefusesFilledPiece};
-ghost use Rattle.md_read_commands.specs.Gaps.{AreFitGaps, AreTold, HasFewMore, HasNoGaps, HasRoomForMore, HasSameRoom, capacity_of, gaps_of};
+ghost use Rattle.md_streams.specs.Gaps.{AreFitGaps, AreTold, HasNoGaps};
+ghost use Rattle.md_read_commands.specs.Holes.{HasFewMore, HasRoomForMore, HasSameRoom, capacity_of, gaps_of};
 ghost use Rattle.md_read_commands.specs.Pieces.{piece_sectors};
 ghost use Rattle.md_read_commands.specs.Ways.{MayReadBy};
 
 use crate::buffer::buffer;
-use crate::fill_watch::FillWatch;
-use crate::gaps::{Gaps, Holes};
+use crate::holes::Holes;
 use crate::noting::add_holes;
 use crate::others::read_other;
 use crate::pieces::PIECE_SECTORS;
 use crate::way::{Unread, Way, read_by};
 use md_array::Mirror;
 use md_badblocks::Run;
-use md_commands::CommandFault;
 use md_device::Device;
-use md_examine::{Sink, SinkFault};
+use md_refusals::CommandFault;
+use md_streams::{FillWatch, Gaps, Sink, SinkFault};
 use std::alloc::Global;
 
 /// Puts out sectors of an array, read in this way, through one buffer. Each that is not given is added

@@ -1,10 +1,12 @@
 // Sectors that are not given are noted.
 ghost use Rattle.std.specs.Prelude.{◌≡◌, ℕ, IfOk, MatchResult};
 ghost use Rattle.md_badblocks.specs.Runs.{IsBad};
-ghost use Rattle.md_read_commands.specs.Gaps.{AreFit, AreFitGaps, HasBoth, HasBothGaps, HasSomeGapsOf, HasSomeOf, IsGap, gaps_of};
+ghost use Rattle.md_streams.specs.Gaps.{AreFit, AreFitGaps, HasBoth, HasBothGaps, HasSomeGapsOf, HasSomeOf, IsGap};
+ghost use Rattle.md_read_commands.specs.Holes.{gaps_of};
 
-use crate::gaps::{Gaps, Holes};
+use crate::holes::Holes;
 use md_badblocks::{BadSet, Run};
+use md_streams::Gaps;
 use std::alloc::{AllocError, Global};
 
 /// Adds these sectors to those that are noted, all of them or none. There is no memory for that only where there is one of them.
@@ -56,8 +58,8 @@ fn join_sets(alloc: Global, one: &BadSet, other: &[Run]) -> Result<BadSet, Alloc
     Ok(both)
 }
 
-// Adds these sectors to a set. Where there is no memory for that, some are added perhaps, and there is one of them.
-fn add_all(set: &mut BadSet, more: &[Run]) -> Result<(), AllocError>
+/// Adds these sectors to a set. If memory runs out, some of them may have been added. Then `more` has at least one sector.
+pub fn add_all(set: &mut BadSet, more: &[Run]) -> Result<(), AllocError>
     requires fit { AreFit more.now }
     ensures { MatchResult result
         (λ _. HasBoth set.old more.now set.new)

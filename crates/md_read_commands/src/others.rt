@@ -12,8 +12,8 @@ ghost use Rattle.md_read_commands.specs.Others.{AsksInSync, AsksMember, AsksOthe
 use crate::stand_in::read_stand_ins;
 use crate::way::Unread;
 use md_array::Mirror;
-use md_commands::CommandFault;
 use md_device::Device;
+use md_refusals::CommandFault;
 use md_resync::ResyncFault;
 
 /// Reads a sector that was not given from another member in sync, if one was not asked for it: that is so where a resync would

@@ -1,9 +1,10 @@
 // Bytes of the array are put out.
 ghost use Rattle.std.specs.Prelude.{MatchResult};
-ghost use Rattle.md_commands.specs.Output.{FailsOutput, PutsOut};
+ghost use Rattle.md_refusals.specs.Output.{FailsOutput};
+ghost use Rattle.md_streams.specs.Putting.{PutsOut};
 
-use md_commands::CommandFault;
-use md_examine::Sink;
+use md_refusals::CommandFault;
+use md_streams::Sink;
 
 /// Puts out these bytes, and passes on what the output holds back.
 pub(crate) fn put_out<S: Sink>(out: &mut S, bytes: &[u8]) -> Result<(), CommandFault>

@@ -10,9 +10,9 @@ use crate::buffer::buffer;
 use crate::output::put_out;
 use crate::way::{Unread, Way, read_by};
 use md_array::Mirror;
-use md_commands::CommandFault;
 use md_device::Device;
-use md_examine::Sink;
+use md_refusals::CommandFault;
+use md_streams::Sink;
 use std::alloc::Global;
 
 /// The sectors of a piece: 1 MiB.

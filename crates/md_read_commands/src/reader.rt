@@ -2,18 +2,19 @@
 ghost use Rattle.std.specs.Prelude.{◌≡◌, ◌/◌, ◌%◌, ◌≤◌, IfErr, MatchResult, length};
 ghost use Rattle.md_array.specs.Consistency.{IsConsistent};
 ghost use Rattle.md_state.specs.Rests.{Rests};
-ghost use Rattle.md_read_commands.specs.Gaps.{HasSameRoom, capacity_of};
+ghost use Rattle.md_read_commands.specs.Holes.{HasSameRoom, capacity_of};
 ghost use Rattle.md_nbd.specs.declared.server.store.StoreFault.TheVariants.{NoMemory as NoMemoryFault};
 ghost use Rattle.md_read_commands.specs.Serving.{FillsRequest, FillsUnnotedRequest, LacksAsTold, LacksSector};
 ghost use Rattle.md_read_commands.specs.Ways.{MayReadBy, ReadsBy};
 
 use crate::filling::fill_piece;
-use crate::gaps::{Gaps, Holes};
+use crate::holes::Holes;
 use crate::noting::note_all;
 use crate::way::{Way, read_by};
 use md_array::Mirror;
 use md_device::Device;
 use md_nbd::{Store, StoreFault};
+use md_streams::Gaps;
 use std::alloc::{AllocError, Global};
 
 /// How an array is served that is only read, and which of its sectors were not given in this way.

@@ -4,22 +4,21 @@ ghost use Rattle.md_inflight.specs.Requests.Pending.{PendingView};
 ghost use Rattle.md_state.specs.Requests.{IsPending};
 ghost use Rattle.md_array.specs.Consistency.{IsConsistent};
 ghost use Rattle.md_read_commands.specs.Filling.{FillsArray, IsFirstGap, IsLeastOf, ReadsFilled, RefusesToFill, has_put_all};
-ghost use Rattle.md_read_commands.specs.Gaps.{AreTold, HasNoGaps};
-ghost use Rattle.md_read_commands.specs.declared.gaps.Gaps.{Gaps as GapsView};
+ghost use Rattle.md_streams.specs.Gaps.{AreTold, HasNoGaps};
+ghost use Rattle.md_streams.specs.declared.gaps.Gaps.{Gaps as GapsView};
 ghost use Rattle.md_read_commands.specs.Reading.{IsReadyTo, MayReadArray, ReadsArray, ReadsReadonly, RefusesRange, RefusesReadonly, RefusesReady, RefusesToRead};
 ghost use Rattle.md_read_commands.specs.Ways.{MayReadBy};
 
-use crate::fill_watch::FillWatch;
 use crate::filling::{Sectors, put_filled};
-use crate::gaps::Gaps;
 use crate::pieces::put_sectors;
 use crate::way::Way;
 use md_array::Mirror;
 use md_badblocks::BadSet;
-use md_commands::{CommandFault, resync_if_needed};
+use md_commands::resync_if_needed;
 use md_device::Device;
-use md_examine::Sink;
 use md_read::UnreadFault;
+use md_refusals::CommandFault;
+use md_streams::{FillWatch, Gaps, Sink};
 use std::alloc::Global;
 
 /// Puts out `count` sectors of an array, from this one on. A degraded array that is not resynced is resynced

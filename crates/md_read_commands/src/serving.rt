@@ -7,14 +7,14 @@ ghost use Rattle.md_array.specs.Consistency.{IsConsistent};
 ghost use Rattle.md_read_commands.specs.Serving.{HasServed, IsFreshReader, MayBeServed, RefusesToBegin, ServesArray};
 
 use crate::buffer::buffer;
-use crate::gaps::{Gaps, Holes};
+use crate::holes::Holes;
 use crate::reader::ArrayReader;
 use crate::reading::{first_gap, way_as_it_is};
 use md_array::Mirror;
-use md_commands::{CommandFault, Source};
 use md_device::Device;
-use md_examine::Sink;
-use md_nbd::{ClientWatch, Export, MOST_BYTES, SessionFault, serve_client};
+use md_nbd::{ClientWatch, Export, MOST_BYTES, Service, SessionFault, serve_client};
+use md_refusals::CommandFault;
+use md_streams::{Gaps, Sink, Source};
 use std::alloc::Global;
 
 // The room for requests at first, in sectors: what a client's options need, and the requests of most clients.
@@ -109,7 +109,11 @@ fn serve<D: Device + Drop, W: ClientWatch, I: Source, S: Sink>(
         size: 512 * mirror.chunks().size,
         readonly: true,
     };
-    match serve_client(alloc, &export, reader, mirror, watch, room, input, out) {
+    let service = Service {
+        export: &export,
+        watch: &*watch,
+    };
+    match serve_client(alloc, &service, reader, mirror, room, input, out) {
         Ok(end) if end.is_orderly() => {}
         Ok(_) => return Err(CommandFault::InputFault),
         Err(SessionFault::Source) => return Err(CommandFault::InputFault),

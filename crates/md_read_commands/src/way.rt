@@ -7,13 +7,13 @@ ghost use Rattle.md_read_commands.specs.declared.way.Way.TheVariants.{Resynced, 
 ghost use Rattle.md_read_commands.specs.Ways.{EndsReading, MayReadBy, ReadsBy};
 
 use md_array::Mirror;
-use md_commands::CommandFault;
 use md_device::Device;
 use md_read::{UnreadFault, UnresyncedFault, read, read_unresynced};
+use md_refusals::CommandFault;
 use md_resync::ResyncFault;
 
 /// How sectors of an array are read.
-#[derive(Clone, Copy, Debug, PartialEq, Eq)]
+#[derive(Clone, Copy)]
 pub(crate) enum Way {
     /// By `read`, since the array is resynced.
     Resynced,
@@ -22,7 +22,7 @@ pub(crate) enum Way {
 }
 
 /// The first sector of a piece that was not read, and why.
-#[derive(Debug, Drop)]
+#[derive(Drop)]
 pub(crate) struct Unread {
     pub(crate) sector: u64,
     pub(crate) fault: CommandFault,

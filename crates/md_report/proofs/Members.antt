@@ -1,21 +1,15 @@
 -- What is read of the members one by one, and what it makes of all of them.
 use Rattle.std.proofs.Common.{◌≡◌, ℕ, zero, suc, ◌+◌, ◌<◌, Bool, true, false, List, [], ◌∷◌, ◌++◌, length, get_or, take, Some, refl, ap, sym, ◌∙◌, append_assoc, append-nil, arith}
-use Rattle.std.specs.List.{count_by, slice_get}
+use Rattle.std.specs.List.{slice_get}
 use Rattle.std.specs.Option.{option_map}
-use Rattle.std.proofs.lemmas.List.Sums.{count_by_more_yes, count_by_more_no}
 use Rattle.std.proofs.lemmas.Option.{get_or_from_slice_get, same_Some}
 use Rattle.md_super.specs.declared.superblock.Superblock.{Superblock}
 use Rattle.md_assembly.specs.declared.state.MemberState.{MemberState}
-use Rattle.md_assembly.specs.States.{is_in_sync}
 use Rattle.md_kept_members.specs.OwnFields.{is_write_mostly}
 use Rattle.md_kept_members.specs.View.{MemberView}
 use Rattle.md_state.specs.Missing.{is_re_added}
 use Rattle.md_state.specs.View.{ArrayView}
 use Rattle.md_report.specs.AsText.WholeArray.DetailReport.{member_lines, member_text}
-
--- how many of the first k members are in sync
-abbrev pub in_sync_first : List MemberView → ℕ → ℕ
-in_sync_first ms k = count_by (λ m. is_in_sync m.state) (take k ms)
 
 pub there : (ms : List MemberView) (k : ℕ) → k < length ms → (m : MemberView) × (slice_get ms k ≡ Some m)
 there [] k lt = absurd (omega arith)
@@ -26,16 +20,6 @@ there (m ∷ ms) (suc k) lt = there ms k (omega arith)
 pub state_there : (ms : List MemberView) (k : ℕ) (m : MemberView) (state : MemberState) → slice_get ms k ≡ Some m → option_map (λ m. m.state) (slice_get ms k) ≡ Some state → (get_or ms k m).state ≡ state
 state_there ms k m state at e =
     ap (λ x. x.state) (get_or_from_slice_get ms k m m at) ∙ same_Some m.state state (sym (ap (option_map (λ x. x.state)) at) ∙ e)
-
-pub one_more : (ms : List MemberView) (k : ℕ) (state : MemberState) → k < length ms → option_map (λ m. m.state) (slice_get ms k) ≡ Some state → is_in_sync state ≡ true → in_sync_first ms (k + 1) ≡ in_sync_first ms k + 1
-one_more ms k state lt e is =
-    let found = there ms k lt in
-    count_by_more_yes (λ m. is_in_sync m.state) ms k found.0 lt (ap is_in_sync (state_there ms k found.0 state found.1 e) ∙ is)
-
-pub no_more : (ms : List MemberView) (k : ℕ) (state : MemberState) → k < length ms → option_map (λ m. m.state) (slice_get ms k) ≡ Some state → is_in_sync state ≡ false → in_sync_first ms (k + 1) ≡ in_sync_first ms k
-no_more ms k state lt e is =
-    let found = there ms k lt in
-    count_by_more_no (λ m. is_in_sync m.state) ms k found.0 lt (ap is_in_sync (state_there ms k found.0 state found.1 e) ∙ is)
 
 -- the line of one more member, whose index is n
 pub line_more : (a : ArrayView) (index : ℕ) (ms : List MemberView) (k n : ℕ) (v : Superblock) (state : MemberState) (re_added mostly : Bool) → n ≡ index + k → k < length ms → option_map (λ m. m.superblock) (slice_get ms k) ≡ Some v → option_map (λ m. m.state) (slice_get ms k) ≡ Some state → ((m : MemberView) → slice_get ms k ≡ Some m → re_added ≡ is_re_added a m) → mostly ≡ is_write_mostly v → member_lines a index (take k ms) ++ member_text n v.dev_number state re_added mostly ≡ member_lines a index (take (k + 1) ms)

@@ -22,7 +22,7 @@ pub use as_json::{
     refusal_json, salvaged_json, summary_json, superblock_json,
 };
 pub use as_text::{
-    check_list_report, check_report, detail, members_in_sync, plan_report, rebuilt_line_report,
-    rebuilt_report, salvaged_line_report, salvaged_report, summary, verbose_detail,
+    check_list_report, check_report, detail, plan_report, rebuilt_line_report, rebuilt_report,
+    salvaged_line_report, salvaged_report, summary, verbose_detail,
 };
 pub use recovery::Recovery;

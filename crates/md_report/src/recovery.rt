@@ -4,13 +4,13 @@ ghost use Rattle.md_model.specs.Sectors.{is_passed};
 ghost use Rattle.md_kept_members.specs.View.{MemberView};
 ghost use Rattle.md_state.specs.Members.{IsMember};
 ghost use Rattle.md_state.specs.View.{geometry_of};
-ghost use Rattle.md_examine.specs.Sink.{PutsOrFails};
+ghost use Rattle.md_streams.specs.Sink.{PutsOrFails};
 ghost use Rattle.md_report.specs.Recovery.{is_marked_before, lacked_to, marked_to, offset_said, percent, recovery_if, recovery_line, recovery_lines, recovery_of, share_text, those};
 ghost use Rattle.std.specs.List.{flat_map};
 
 use md_array::Mirror;
 use md_device::Device;
-use md_examine::{Sink, SinkFault, number_after};
+use md_streams::{Sink, SinkFault, number_after};
 
 /// How far a recovering member is: its index, the sector before which it was rebuilt, how many chunks the array has, how
 /// many of them it lacks, and how many before that sector are marked, which it lacks too.
@@ -58,7 +58,7 @@ fn line<S: Sink>(out: &mut S, recovery: Recovery) -> Result<(), SinkFault>
 }
 
 // How many of so many chunks it has.
-#[tactic(auto, unfolding(crate::specs::Recovery::share_text), using(md_examine::proofs::Puts::puts_then))]
+#[tactic(auto, unfolding(crate::specs::Recovery::share_text), using(md_streams::proofs::Puts::puts_then))]
 fn share<S: Sink>(out: &mut S, chunks: u32, missing: u32) -> Result<(), SinkFault>
     ensures { PutsOrFails S.contents S.failed out.old out.new (share_text chunks missing) result }
 {

@@ -1,14 +1,13 @@
 -- What each request keeps, a session keeps.
 use Rattle.std.proofs.Common.{◌≡◌, inl, inr, ⊎_elim, ℕ, Bool, true, false, List, [], ◌∷◌, sym, subst}
 use Rattle.md_state.specs.View.{MirrorView}
-use Rattle.md_examine.specs.declared.sink.Sink.{Ghosts as Sinks}
-use Rattle.md_commands.specs.declared.source.Source.{Ghosts as Sources}
+use Rattle.md_streams.specs.declared.sink.Sink.{Ghosts as Sinks}
+use Rattle.md_streams.specs.declared.source.Source.{Ghosts as Sources}
 use Rattle.md_nbd.specs.declared.export.Export.{Export}
 use Rattle.md_nbd.specs.declared.server.session.SessionEnd.{SessionEnd}
 use Rattle.md_nbd.specs.declared.server.session.SessionEnd.TheVariants.{NoFlags, UnknownFlags, Unagreed, Gone}
-use Rattle.md_nbd.specs.declared.server.session.SessionFault.{SessionFault}
-use Rattle.md_nbd.specs.declared.server.transmission.StreamFault.{StreamFault}
-use Rattle.md_nbd.specs.declared.server.transmission.StreamFault.TheVariants as stream
+use Rattle.md_nbd.specs.declared.server.session_fault.SessionFault.{SessionFault}
+use Rattle.md_nbd.specs.declared.server.session_fault.SessionFault.TheVariants as stream
 use Rattle.md_nbd.specs.declared.task.Task.{Task}
 use Rattle.md_nbd.specs.declared.task.Task.TheVariants as task
 use Rattle.md_nbd.specs.NbdTasks.{task_of}
@@ -102,7 +101,7 @@ module _ (R : MirrorView → MirrorView → Type 0) (keeps : EachKeeps R) where
     session_keeps (Unagreed why) h = unchanged old new h.store
     session_keeps (Gone why) h = in_turn_keeps e old h.transmits.exchanges new h.transmits.answered.runs
 
-    failed_keeps : (mid : ArrayWriter × MirrorView) (at : I) (earlier : S) (why : StreamFault) → HasFailed writer_store i o e mid new at to earlier now why → R mid.1 new.1
+    failed_keeps : (mid : ArrayWriter × MirrorView) (at : I) (earlier : S) (why : SessionFault) → HasFailed writer_store i o e mid new at to earlier now why → R mid.1 new.1
     failed_keeps mid at earlier stream.Source h = unchanged mid new h.1
     failed_keeps mid at earlier stream.NoMemory h = unchanged mid new h.0
     failed_keeps mid at earlier stream.Sink h = task_keeps (task_of e h.last.request) h.last.request.cookie h.last.payload mid new h.last.reply h.answers.does
@@ -113,4 +112,4 @@ module _ (R : MirrorView → MirrorView → Type 0) (keeps : EachKeeps R) where
     broken_keeps fault (inr (inr h)) =
         keeps.on old.1 h.breaks.mid.1 new.1
         (in_turn_keeps e old h.breaks.exchanges h.breaks.mid h.breaks.answered.runs)
-        (failed_keeps h.breaks.mid h.breaks.at h.breaks.before h.why h.breaks.failed)
+        (failed_keeps h.breaks.mid h.breaks.at h.breaks.before fault h.breaks.failed)

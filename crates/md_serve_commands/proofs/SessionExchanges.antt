@@ -1,15 +1,14 @@
 -- Whatever comes of a session, it is a list of exchanges.
 use Rattle.std.proofs.Common.{◌⊎◌, inl, inr, List, [], ◌∷◌, ◌++◌, Ok, Err, refl, subst}
 use Rattle.md_state.specs.View.{MirrorView}
-use Rattle.md_examine.specs.declared.sink.Sink.{Ghosts as Sinks}
-use Rattle.md_commands.specs.declared.fault.CommandFault.TheVariants.{InputFault, NoPieceMemory, OutputFault}
-use Rattle.md_commands.specs.declared.source.Source.{Ghosts as Sources}
+use Rattle.md_streams.specs.declared.sink.Sink.{Ghosts as Sinks}
+use Rattle.md_refusals.specs.declared.fault.CommandFault.TheVariants.{InputFault, NoPieceMemory, OutputFault}
+use Rattle.md_streams.specs.declared.source.Source.{Ghosts as Sources}
 use Rattle.md_nbd.specs.declared.export.Export.{Export}
 use Rattle.md_nbd.specs.declared.server.session.SessionEnd.{SessionEnd}
 use Rattle.md_nbd.specs.declared.server.session.SessionEnd.TheVariants.{Gone, NoFlags, Unagreed, UnknownFlags}
-use Rattle.md_nbd.specs.declared.server.session.SessionFault.{SessionFault}
-use Rattle.md_nbd.specs.declared.server.transmission.StreamFault.{StreamFault}
-use Rattle.md_nbd.specs.declared.server.transmission.StreamFault.TheVariants as stream
+use Rattle.md_nbd.specs.declared.server.session_fault.SessionFault.{SessionFault}
+use Rattle.md_nbd.specs.declared.server.session_fault.SessionFault.TheVariants as stream
 use Rattle.md_nbd.specs.Server.Exchanges.{AnswersInTurn, Exchange}
 use Rattle.md_nbd.specs.Server.Sessions.{BreaksAtRequests, BreaksSession, EndsSession}
 use Rattle.md_nbd.specs.Server.Transmission.{HasFailed}
@@ -53,7 +52,7 @@ module _ {I S : Type 0} (i : Sources I) (o : Sinks S) (first last : ArrayWriter)
   broken_off f h =
       let b = h.breaks in
       let rest : (ends : EndsTelling i o first last old new from to was now b.mid b.at b.before)
-      × AnswersInTurn writer_store e b.mid (untold i o first last old new from to was now b.mid b.at b.before ends) (last, new) = by b.mid b.at b.before h.why b.failed in
+      × AnswersInTurn writer_store e b.mid (untold i o first last old new from to was now b.mid b.at b.before ends) (last, new) = by b.mid b.at b.before f b.failed in
       inl (record {
         ready = h.ready;
         greeted = h.answered;
@@ -67,7 +66,7 @@ module _ {I S : Type 0} (i : Sources I) (o : Sinks S) (first last : ArrayWriter)
         all = in_turn_on e (first, old) b.mid (last, new) b.exchanges (untold i o first last old new from to was now b.mid b.at b.before rest.0) b.answered.runs rest.1;
       })
     where
-      by : (mid : ArrayWriter × MirrorView) (at : I) (before : S) (why : StreamFault) → HasFailed writer_store i o e mid (last, new) at to before now why
+      by : (mid : ArrayWriter × MirrorView) (at : I) (before : S) (why : SessionFault) → HasFailed writer_store i o e mid (last, new) at to before now why
           → (ends : EndsTelling i o first last old new from to was now mid at before)
           × AnswersInTurn writer_store e mid (untold i o first last old new from to was now mid at before ends) (last, new)
       by mid at before stream.Source x = (inl (x.1, inl x.2), x.1)

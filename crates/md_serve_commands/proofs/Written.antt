@@ -4,13 +4,13 @@ use Rattle.std.specs.Prelude.{MatchResult}
 use Rattle.md_bitmap.specs.declared.chunks.Chunks.{Chunks}
 use Rattle.md_resync.proofs.Told.{resynced_array}
 use Rattle.md_state.specs.View.{ArrayView, MirrorView}
-use Rattle.md_examine.specs.declared.sink.Sink.{Ghosts as Sinks}
-use Rattle.md_examine.specs.Sink.{Flushes}
+use Rattle.md_streams.specs.declared.sink.Sink.{Ghosts as Sinks}
+use Rattle.md_streams.specs.Sink.{Flushes}
 use Rattle.md_commands.specs.Resyncing.{ResyncsIfNeeded, needs_resync}
-use Rattle.md_commands.specs.declared.source.Source.{Ghosts as Sources}
+use Rattle.md_streams.specs.declared.source.Source.{Ghosts as Sources}
 use Rattle.md_nbd.specs.declared.export.Export.{Export}
 use Rattle.md_nbd.specs.declared.server.session.SessionEnd.{SessionEnd}
-use Rattle.md_nbd.specs.declared.server.session.SessionFault.{SessionFault}
+use Rattle.md_nbd.specs.declared.server.session_fault.SessionFault.{SessionFault}
 use Rattle.md_nbd.specs.Export.{sector_bytes}
 use Rattle.md_nbd.specs.Server.Sessions.{BreaksSession, EndsSession, is_orderly}
 use Rattle.md_serve_commands.specs.declared.writer.ArrayWriter.{ArrayWriter}

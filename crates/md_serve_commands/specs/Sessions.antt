@@ -13,15 +13,15 @@ use Rattle.md_laws.specs.Left.{contents_of}
 use Rattle.md_laws.specs.Lives.{IsReopened}
 use Rattle.md_laws.specs.Runs.{Moment}
 use Rattle.md_resync.specs.Resyncing.{Resyncs}
-use Rattle.md_examine.specs.declared.sink.Sink.{Ghosts as Sinks}
-use Rattle.md_commands.specs.declared.fault.CommandFault.{CommandFault}
-use Rattle.md_commands.specs.declared.source.Source.{Ghosts as Sources}
-use Rattle.md_commands.specs.Output.{PutsOut}
+use Rattle.md_streams.specs.declared.sink.Sink.{Ghosts as Sinks}
+use Rattle.md_refusals.specs.declared.fault.CommandFault.{CommandFault}
+use Rattle.md_streams.specs.declared.source.Source.{Ghosts as Sources}
+use Rattle.md_streams.specs.Putting.{PutsOut}
 use Rattle.md_nbd.specs.declared.export.Export.{Export}
 use Rattle.md_nbd.specs.declared.reply.ErrorCode.TheVariants.{Io}
 use Rattle.md_nbd.specs.declared.server.session.SessionEnd.{SessionEnd}
 use Rattle.md_nbd.specs.declared.server.session.SessionEnd.TheVariants.{Gone}
-use Rattle.md_nbd.specs.declared.server.session.SessionFault.{SessionFault}
+use Rattle.md_nbd.specs.declared.server.session_fault.SessionFault.{SessionFault}
 use Rattle.md_nbd.specs.declared.task.Task.{Task}
 use Rattle.md_nbd.specs.declared.task.Task.TheVariants.{Disconnect, Flush, Read, Refuse, Write}
 use Rattle.md_nbd.specs.Export.{sector_bytes}

@@ -11,10 +11,10 @@ use Rattle.md_laws.specs.Left.{contents_of}
 use Rattle.md_laws.specs.Runs.{Moment}
 use Rattle.md_metadata.specs.Storing.{AllRecorded}
 use Rattle.md_metadata.specs.declared.stop_fault.StopFault.TheVariants.{Halted}
-use Rattle.md_examine.specs.declared.sink.Sink.{Ghosts as Sinks}
-use Rattle.md_commands.specs.declared.fault.CommandFault.{CommandFault}
-use Rattle.md_commands.specs.declared.fault.CommandFault.TheVariants.{Stop, Write}
-use Rattle.md_commands.specs.declared.source.Source.{Ghosts as Sources}
+use Rattle.md_streams.specs.declared.sink.Sink.{Ghosts as Sinks}
+use Rattle.md_refusals.specs.declared.fault.CommandFault.{CommandFault}
+use Rattle.md_refusals.specs.declared.fault.CommandFault.TheVariants.{Stop, Write}
+use Rattle.md_streams.specs.declared.source.Source.{Ghosts as Sources}
 use Rattle.md_commands.specs.Resyncing.{needs_resync}
 use Rattle.md_nbd.specs.declared.export.Export.{Export}
 use Rattle.md_nbd.specs.Server.Exchanges.{AnswersInTurn, Exchange}

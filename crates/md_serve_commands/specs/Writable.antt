@@ -8,16 +8,16 @@ use Rattle.md_metadata.specs.declared.stop_fault.StopFault.{StopFault}
 use Rattle.md_metadata.specs.Stopping.{RefusesStop, StopsMirror}
 use Rattle.md_read.specs.declared.fault.UnreadFault.{UnreadFault}
 use Rattle.md_read.specs.declared.fault.UnreadFault.TheVariants.{Halted, NotResynced}
-use Rattle.md_examine.specs.declared.sink.Sink.{Ghosts as Sinks}
-use Rattle.md_commands.specs.declared.fault.CommandFault.{CommandFault}
-use Rattle.md_commands.specs.declared.fault.CommandFault.TheVariants.{InputFault, NoPieceMemory, OutputFault, Read, Resync, Stop, Write}
-use Rattle.md_commands.specs.declared.source.Source.{Ghosts as Sources}
-use Rattle.md_commands.specs.Output.{PutsOut}
+use Rattle.md_streams.specs.declared.sink.Sink.{Ghosts as Sinks}
+use Rattle.md_refusals.specs.declared.fault.CommandFault.{CommandFault}
+use Rattle.md_refusals.specs.declared.fault.CommandFault.TheVariants.{InputFault, NoPieceMemory, OutputFault, Read, Resync, Stop, Write}
+use Rattle.md_streams.specs.declared.source.Source.{Ghosts as Sources}
+use Rattle.md_streams.specs.Putting.{PutsOut}
 use Rattle.md_commands.specs.Resyncing.{RefusesNeededResync, ResyncsIfNeeded, needs_resync}
 use Rattle.md_nbd.specs.declared.export.Export.{Export}
 use Rattle.md_nbd.specs.declared.server.session.SessionEnd.{SessionEnd}
-use Rattle.md_nbd.specs.declared.server.session.SessionFault.{SessionFault}
-use Rattle.md_nbd.specs.declared.server.session.SessionFault.TheVariants as session
+use Rattle.md_nbd.specs.declared.server.session_fault.SessionFault.{SessionFault}
+use Rattle.md_nbd.specs.declared.server.session_fault.SessionFault.TheVariants as session
 use Rattle.md_nbd.specs.Export.{sector_bytes}
 use Rattle.md_nbd.specs.Server.Sessions.{BreaksSession, EndsSession, is_orderly}
 use Rattle.md_serve_commands.specs.declared.writer.ArrayWriter.{ArrayWriter}

@@ -5,8 +5,7 @@ ghost use Rattle.md_serve_commands.specs.Sessions.{FlushedStands, SessionsAreExc
 ghost use Rattle.md_serve_commands.specs.Told.{HaltsEnd, HaltsForGood, HaltsSession, NothingIsDropped, SessionsAreCalls, ToldFlushesStand, ToldWritesAreKept};
 ghost use Rattle.md_serve_commands.specs.WholeSessions.{SessionsAreWhole, SessionsEndAsTold};
 
-use md_commands::Source;
-use md_examine::Sink;
+use md_streams::{Sink, Source};
 
 /// A write that is answered without an error is done, as `write` does it, or waits behind those before it; and no request loses what
 /// waits, also where a late write fails. Once a flush is answered without an error all of them are done, and the mirror runs. Once the

@@ -8,12 +8,13 @@ ghost use Rattle.md_serve_commands.specs.Writable.{HasServed, IsReadyToServe, Ma
 
 use crate::writer::{ArrayWriter, room_to_wait};
 use md_array::Mirror;
-use md_commands::{CommandFault, Source, resync_if_needed};
+use md_commands::resync_if_needed;
 use md_device::Device;
-use md_examine::Sink;
 use md_metadata::stop;
-use md_nbd::{ClientWatch, Export, SessionFault, serve_client};
+use md_nbd::{ClientWatch, Export, Service, SessionFault, serve_client};
 use md_read::UnreadFault;
+use md_refusals::CommandFault;
+use md_streams::{Sink, Source};
 use std::alloc::{AllocError, Global};
 
 // The room for requests at first: what a client's options need, and the requests of most clients.
@@ -147,7 +148,11 @@ fn serve<D: Device + Drop, W: ClientWatch, I: Source, S: Sink>(
         size: 512 * mirror.chunks().size,
         readonly: false,
     };
-    match serve_client(alloc, &export, writer, mirror, watch, room, input, out) {
+    let service = Service {
+        export: &export,
+        watch: &*watch,
+    };
+    match serve_client(alloc, &service, writer, mirror, room, input, out) {
         Ok(end) if end.is_orderly() => {}
         Ok(_) => return Err(CommandFault::InputFault),
         Err(SessionFault::Source) => return Err(CommandFault::InputFault),

@@ -30,7 +30,7 @@ use std::alloc::{AllocError, Global};
 use std::marker::Model;
 
 /// All that a mirror keeps in memory.
-#[derive(Debug, Drop)]
+#[derive(Drop)]
 pub struct Array {
     /// In the order of the devices that were opened.
     pub members: Vec<Member>,

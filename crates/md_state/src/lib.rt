@@ -12,6 +12,8 @@
 #![tactic(auto)]
 
 mod array;
+mod data_area;
 mod steps;
 
 pub use array::Array;
+pub use data_area::{put_on, sector_on};

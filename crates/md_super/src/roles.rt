@@ -59,14 +59,6 @@ impl Roles {
     {
         self.list[number as usize] = role;
     }
-
-    /// The list itself. It takes no memory.
-    pub fn into_vec(self) -> Vec<u16>
-        ensures { result.items ≡ self }
-    {
-        let Roles { list: roles } = self;
-        roles
-    }
 }
 
 impl Roles {

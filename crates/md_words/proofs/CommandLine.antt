@@ -20,7 +20,7 @@ use Rattle.clap.specs.declared.builder.range.ValueRange.{ValueRange}
 use Rattle.std.specs.Borrow.{Bor}
 use Rattle.clap.specs.declared.builder.texts.Texts.TheVariants.{One}
 use Rattle.md_words.specs.Words.{mdcli, with_aliases}
-use Rattle.md_words.specs.Parsing.{ask_found, ask_named, bitmap_found, bitmap_in, data_of_found, data_of_in, images_found, map_out_found, map_out_in, maps_found, output_found, output_in, verbose_found, verbose_in}
+use Rattle.md_words.specs.Parsing.{ask_found, ask_named, bitmap_found, bitmap_in, data_of_found, data_of_in, images_found, map_out_found, map_out_in, maps_found, output_found, output_in, verbose_found, has_flag}
 
 pub some_is : {X : Type 0} (o : Option X) (x : X) → IsSomeAnd o (λ r. r ≡ x) → o ≡ Some x
 some_is None x h = absurd h
@@ -105,7 +105,7 @@ pub asks_read : (m : ArgMatches) (name : Text) (f : Found) → subcommand_rows_o
 asks_read m name f is = sym (ap ask_found is)
 
 -- whether a subcommand's matches ask that more is said
-pub verbose_read : (m : ArgMatches) (name : Text) (f : Found) → subcommand_rows_of m ≡ Some (name, rows_of f) → verbose_in (rows_of f) ≡ verbose_found (subcommand_rows_of m)
+pub verbose_read : (m : ArgMatches) (name : Text) (f : Found) → subcommand_rows_of m ≡ Some (name, rows_of f) → has_flag (codes "verbose") (rows_of f) ≡ verbose_found (subcommand_rows_of m)
 verbose_read m name f is = sym (ap verbose_found is)
 
 -- a command gets no global argument with one that is local

@@ -144,6 +144,20 @@ overwritten_by (re_adds name full json) = overwritten.ReturningDevice
 overwritten_by (rebuilds k loss form) = overwritten.Member k
 overwritten_by _ = overwritten.Nothing
 
+-- whether it may part the array: it can go on without members in sync that are not among the images
+abbrev pub may_part : Ask → Bool
+may_part (grows bitmap kib) = true
+may_part serves_writable = true
+may_part (writes sector count) = true
+may_part resyncs = true
+may_part (stops json) = true
+may_part (fails k) = true
+may_part (removes k) = true
+may_part (adds name json) = true
+may_part (re_adds name full json) = true
+may_part (rebuilds k loss form) = true
+may_part _ = false
+
 -- whether a report is a JSON object
 abbrev pub is_json_of_image : ImageForm → Bool
 is_json_of_image image_form.Json = true

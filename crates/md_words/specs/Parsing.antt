@@ -22,6 +22,10 @@ use Rattle.md_words.specs.Asks.{Ask, Options, examines, examines_bitmap, examine
 abbrev pub text_in : Text → List Row → Text
 text_in name rows = unwrap_or (first_of name rows) []
 
+-- whether the words have an option that takes no value
+abbrev pub has_flag : Text → List Row → Bool
+has_flag name rows = bytes_eq (text_in name rows) (codes "true")
+
 abbrev pub number_in : ℕ → Text → List Row → ℕ
 number_in bits name rows = number_or_zero bits (text_in name rows)
 
@@ -40,10 +44,6 @@ chunk_in rows = kib_or_zero 32 (text_in (codes "bitmap-chunk") rows)
 abbrev pub size_in : List Row → Option ℕ
 size_in rows = option_map (kib_or_zero 64) (first_of (codes "size") rows)
 
--- whether the report is to be a JSON object
-abbrev pub json_in : List Row → Bool
-json_in rows = bytes_eq (text_in (codes "json") rows) (codes "true")
-
 abbrev pub options_in : List Row → Options
 options_in rows = record {
   level = text_in (codes "level") rows;
@@ -54,69 +54,37 @@ options_in rows = record {
   size = size_in rows;
   time = number_in 64 (codes "time") rows;
   write_mostly = option_map (number_or_zero 32) (first_of (codes "write-mostly") rows);
-  assume_clean = bytes_eq (text_in (codes "assume-clean") rows) (codes "true");
-  json = json_in rows;
+  assume_clean = has_flag (codes "assume-clean") rows;
+  json = has_flag (codes "json") rows;
 }
-
--- whether the images may only be looked at
-abbrev pub readonly_in : List Row → Bool
-readonly_in rows = bytes_eq (text_in (codes "readonly") rows) (codes "true")
-
--- whether what stands in an image is shown though it may be refused, and whether chunks are listed
-abbrev pub all_in : List Row → Bool
-all_in rows = bytes_eq (text_in (codes "all") rows) (codes "true")
-
-abbrev pub list_in : List Row → Bool
-list_in rows = bytes_eq (text_in (codes "list") rows) (codes "true")
-
--- whether the status is to say that members differ, and whether the report has no plan
-abbrev pub exit_code_in : List Row → Bool
-exit_code_in rows = bytes_eq (text_in (codes "exit-code") rows) (codes "true")
-
-abbrev pub quiet_in : List Row → Bool
-quiet_in rows = bytes_eq (text_in (codes "quiet") rows) (codes "true")
-
--- whether a rebuild lists bad sectors, and not their chunks
-abbrev pub salvage_in : List Row → Bool
-salvage_in rows = bytes_eq (text_in (codes "salvage") rows) (codes "true")
-
--- whether more is to be said: of a refusal, and of the members where the array is shown in detail
-abbrev pub verbose_in : List Row → Bool
-verbose_in rows = bytes_eq (text_in (codes "verbose") rows) (codes "true")
 
 -- how the report on an image is shown, and that of a check; the object of a check lists the chunks in any case
 abbrev pub image_form_in : List Row → ImageForm
 image_form_in rows =
-    if all_in rows then (if json_in rows then image_form.RawJson else image_form.Raw)
-    else if json_in rows then image_form.Json else image_form.Text
+    if has_flag (codes "all") rows
+    then (if has_flag (codes "json") rows then image_form.RawJson else image_form.Raw)
+    else if has_flag (codes "json") rows then image_form.Json else image_form.Text
 
 abbrev pub check_form_in : List Row → CheckForm
 check_form_in rows =
-    if json_in rows then check_form.Json else if list_in rows then check_form.List else check_form.Count
+    if has_flag (codes "json") rows then check_form.Json
+    else if has_flag (codes "list") rows then check_form.List else check_form.Count
 
 -- how an array is shown in detail; the object names the images in any case
 abbrev pub detail_form_in : List Row → DetailForm
 detail_form_in rows =
-    if json_in rows then detail_form.Json
-    else if verbose_in rows then detail_form.Verbose else detail_form.Text
+    if has_flag (codes "json") rows then detail_form.Json
+    else if has_flag (codes "verbose") rows then detail_form.Verbose else detail_form.Text
 
 -- how the report of a rebuild is shown; the object has no plan in any case
 abbrev pub rebuild_form_in : List Row → RebuildForm
 rebuild_form_in rows =
-    if json_in rows then rebuild_form.Json
-    else if quiet_in rows then rebuild_form.Line else rebuild_form.Plans
+    if has_flag (codes "json") rows then rebuild_form.Json
+    else if has_flag (codes "quiet") rows then rebuild_form.Line else rebuild_form.Plans
 
 -- what a rebuild loses
 abbrev pub loss_in : List Row → Loss
-loss_in rows = if salvage_in rows then loss.Sectors else loss.Chunks
-
--- whether zeros stand for sectors that are not given
-abbrev pub fill_in : List Row → Bool
-fill_in rows = bytes_eq (text_in (codes "fill") rows) (codes "true")
-
--- whether a member that comes back gets all of its data
-abbrev pub full_in : List Row → Bool
-full_in rows = bytes_eq (text_in (codes "full") rows) (codes "true")
+loss_in rows = if has_flag (codes "salvage") rows then loss.Sectors else loss.Chunks
 
 -- the images that a command names
 abbrev pub images_in : List Row → List Text
@@ -174,21 +142,13 @@ member_at images text = if fits_bits 32 text then Some (number_or_zero 32 text) 
 abbrev pub member_named : List Row → Option ℕ
 member_named rows = member_at (images_in rows) (text_in (codes "member") rows)
 
--- whether a read that was interrupted is to go on
-abbrev pub resume_in : List Row → Bool
-resume_in rows = bytes_eq (text_in (codes "resume") rows) (codes "true")
-
 abbrev pub resume_found : Option (Text × List Row) → Bool
 resume_found None = false
-resume_found (Some p) = resume_in p.1
-
--- whether nothing is to be asked
-abbrev pub run_in : List Row → Bool
-run_in rows = bytes_eq (text_in (codes "run") rows) (codes "true")
+resume_found (Some p) = has_flag (codes "resume") p.1
 
 abbrev pub run_found : Option (Text × List Row) → Bool
 run_found None = false
-run_found (Some p) = run_in p.1
+run_found (Some p) = has_flag (codes "run") p.1
 
 -- so many sectors, 0 for what is none, which is not taken
 abbrev pub sectors_or_zero : Text → ℕ
@@ -209,37 +169,42 @@ abbrev pub ask_to_change : Text → List Row → Ask
 ask_to_change name rows =
     if bytes_eq name (codes "write") then writes (sector_in rows) (count_in rows)
     else if bytes_eq name (codes "resync") then resyncs
-    else if bytes_eq name (codes "stop") then stops (json_in rows)
+    else if bytes_eq name (codes "stop") then stops (has_flag (codes "json") rows)
     else if bytes_eq name (codes "fail") then fails (member_in rows)
     else if bytes_eq name (codes "remove") then removes (member_in rows)
-    else if bytes_eq name (codes "add") then adds (text_in (codes "device") rows) (json_in rows)
-    else if bytes_eq name (codes "re-add") then re_adds (text_in (codes "device") rows) (full_in rows)
-    (json_in rows)
+    else if bytes_eq name (codes "add") then adds (text_in (codes "device") rows)
+    (has_flag (codes "json") rows)
+    else if bytes_eq name (codes "re-add") then re_adds (text_in (codes "device") rows)
+    (has_flag (codes "full") rows) (has_flag (codes "json") rows)
     else if bytes_eq name (codes "rebuild") then rebuilds (member_in rows) (loss_in rows)
     (rebuild_form_in rows)
     else examines (image_form_in rows)
 
 -- what `serve` asks for
 abbrev pub serve_in : List Row → Ask
-serve_in rows = if readonly_in rows then serves (fill_in rows) else serves_writable
+serve_in rows =
+    if has_flag (codes "readonly") rows then serves (has_flag (codes "fill") rows) else serves_writable
 
 -- what the command of any name asks for
 abbrev pub ask_named : Text → List Row → Ask
 ask_named name rows =
     if bytes_eq name (codes "examine-bitmap") then examines_bitmap (image_form_in rows)
     else if bytes_eq name (codes "examine-badblocks") then examines_badblocks (image_form_in rows)
-    else if bytes_eq name (codes "scan") then scans (json_in rows)
+    else if bytes_eq name (codes "scan") then scans (has_flag (codes "json") rows)
     else if bytes_eq name (codes "create") then creates (options_in rows)
     else if bytes_eq name (codes "grow") then grows (text_in (codes "bitmap") rows)
     (chunk_in rows)
-    else if bytes_eq name (codes "assemble") then assembles (json_in rows) (readonly_in rows)
-    else if bytes_eq name (codes "detail") then details (detail_form_in rows) (readonly_in rows)
-    else if bytes_eq name (codes "plan") then plans (member_in rows) (json_in rows) (readonly_in rows)
-    else if bytes_eq name (codes "read") then reads (sector_in rows) (count_in rows) (fill_in rows)
-    (readonly_in rows)
+    else if bytes_eq name (codes "assemble") then assembles (has_flag (codes "json") rows)
+    (has_flag (codes "readonly") rows)
+    else if bytes_eq name (codes "detail") then details (detail_form_in rows)
+    (has_flag (codes "readonly") rows)
+    else if bytes_eq name (codes "plan") then plans (member_in rows)
+    (has_flag (codes "json") rows) (has_flag (codes "readonly") rows)
+    else if bytes_eq name (codes "read") then reads (sector_in rows) (count_in rows)
+    (has_flag (codes "fill") rows) (has_flag (codes "readonly") rows)
     else if bytes_eq name (codes "serve") then serve_in rows
-    else if bytes_eq name (codes "check") then checks (check_form_in rows) (exit_code_in rows)
-    (readonly_in rows)
+    else if bytes_eq name (codes "check") then checks (check_form_in rows) (has_flag (codes "exit-code") rows)
+    (has_flag (codes "readonly") rows)
     else ask_to_change name rows
 
 abbrev pub ask_found : Option (Text × List Row) → Ask
@@ -252,7 +217,7 @@ images_found (Some p) = images_in p.1
 
 abbrev pub verbose_found : Option (Text × List Row) → Bool
 verbose_found None = false
-verbose_found (Some p) = verbose_in p.1
+verbose_found (Some p) = has_flag (codes "verbose") p.1
 
 -- what the words ask for
 unfoldable pub asked : List Text → Ask
@@ -330,12 +295,14 @@ size_fault (Some p) = if names_no_size p.1 then kind.ValueValidation ∷ [] else
 
 -- whether a map is to be made of a read that ends at what is not given, and does not go on
 abbrev pub names_map_alone : List Row → Bool
-names_map_alone rows = is_some (map_out_in rows) && not (fill_in rows) && not (resume_in rows)
+names_map_alone rows =
+    is_some (map_out_in rows) && not (has_flag (codes "fill") rows) && not (has_flag (codes "resume") rows)
 
 -- whether a read is to go on that changes images, or of which a file is not named
 abbrev pub resumes_alone : List Row → Bool
 resumes_alone rows =
-    resume_in rows && (not (readonly_in rows) || is_none (output_in rows) || is_none (map_out_in rows))
+    has_flag (codes "resume") rows
+    && (not (has_flag (codes "readonly") rows) || is_none (output_in rows) || is_none (map_out_in rows))
 
 -- whether what is only for reading is asked of an array that is served for writing
 abbrev pub has_maps : List Row → Bool
@@ -343,12 +310,13 @@ has_maps rows = is_some (all_of (codes "map") rows)
 
 abbrev pub needs_readonly : Text → List Row → Bool
 needs_readonly name rows =
-    bytes_eq name (codes "serve") && not (readonly_in rows) && (fill_in rows || has_maps rows)
+    bytes_eq name (codes "serve") && not (has_flag (codes "readonly") rows)
+    && (has_flag (codes "fill") rows || has_maps rows)
 
 -- whether a bitmap is named for an array whose images may be changed; `grow` gives them one
 abbrev pub names_bitmap_alone : Text → List Row → Bool
 names_bitmap_alone name rows =
-    is_some (bitmap_in rows) && not (readonly_in rows) && not (bytes_eq name (codes "grow"))
+    is_some (bitmap_in rows) && not (has_flag (codes "readonly") rows) && not (bytes_eq name (codes "grow"))
 
 -- whether a command puts out sectors
 abbrev pub puts_sectors : Text → Bool
@@ -357,7 +325,8 @@ puts_sectors name = bytes_eq name (codes "read") || bytes_eq name (codes "serve"
 -- whether an image is to count as a device where images may be changed, or where sectors that no other gives end a read
 abbrev pub names_data_of_alone : Text → List Row → Bool
 names_data_of_alone name rows =
-    is_some (data_of_in rows) && (not (readonly_in rows) || puts_sectors name && not (fill_in rows))
+    is_some (data_of_in rows)
+    && (not (has_flag (codes "readonly") rows) || puts_sectors name && not (has_flag (codes "fill") rows))
 
 -- whether an option is named without one that it needs
 abbrev pub lacks_option : Text → List Row → Bool

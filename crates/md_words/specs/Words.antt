@@ -55,9 +55,13 @@ with_readonly a = with_rule a (flag_rule (codes "readonly"))
 abbrev pub with_json : App → App
 with_json a = with_rule a (flag_rule (codes "json"))
 
+-- an option by which nothing is asked
+abbrev pub with_run : App → App
+with_run a = with_rule a (flag_rule (codes "run"))
+
 -- A command that stops an array.
 abbrev pub stop_app : App
-stop_app = completed (with_json (new_app (codes "stop")))
+stop_app = completed (with_run (with_json (new_app (codes "stop"))))
 
 -- A command that shows an image, and may show it as it stands. It changes none in any case.
 abbrev pub examine_app : Text → App
@@ -89,7 +93,7 @@ array_app name = with_images (with_json (new_app name))
 
 -- A command that makes the members agree.
 abbrev pub resync_app : App
-resync_app = completed (with_map (new_app (codes "resync")))
+resync_app = completed (with_map (with_run (new_app (codes "resync"))))
 
 -- an option that is a member of the array, by its place or its image
 abbrev pub with_member : App → App
@@ -108,15 +112,11 @@ plan_app = with_images (with_json (with_member (new_app (codes "plan"))))
 
 -- a command that changes the state of one member
 abbrev pub member_app : Text → App
-member_app name = completed (with_member (new_app name))
+member_app name = completed (with_run (with_member (new_app name)))
 
 -- an option that is the image of a device which is to join the array
 abbrev pub with_device_option : App → App
 with_device_option a = with_rule a (required (value_rule (codes "device")))
-
--- an option by which nothing is asked
-abbrev pub with_run : App → App
-with_run a = with_rule a (flag_rule (codes "run"))
 
 -- the commands by which a device joins an array: one that is new to it, and one that comes back, which may get all of its data
 abbrev pub add_app : App
@@ -157,10 +157,11 @@ read_app =
     (with_fill (with_rule (with_sector (new_app (codes "read"))) (value_rule (codes "count"))))
 
 abbrev pub serve_app : App
-serve_app = with_images (with_rule (new_app (codes "serve")) (flag_rule (codes "fill")))
+serve_app = with_images (with_run (with_rule (new_app (codes "serve")) (flag_rule (codes "fill"))))
 
 abbrev pub write_app : App
-write_app = completed (with_rule (with_sector (new_app (codes "write"))) (value_rule (codes "count")))
+write_app =
+    completed (with_run (with_rule (with_sector (new_app (codes "write"))) (value_rule (codes "count"))))
 
 -- `create`: what it must be given, and what it may
 abbrev pub with_required : App → App
@@ -192,8 +193,9 @@ create_app =
 abbrev pub grow_app : App
 grow_app =
     completed
+    (with_run
     (with_rule (with_rule (new_app (codes "grow")) (required (value_rule (codes "bitmap"))))
-    (by_default (codes "65536") (value_rule (codes "bitmap-chunk"))))
+    (by_default (codes "65536") (value_rule (codes "bitmap-chunk")))))
 
 -- the program itself has a version, and asks for a command
 abbrev pub with_version : App → App

@@ -1,6 +1,6 @@
 // A command that opens an array.
 ghost use Rattle.std.specs.Prelude.{◌≡◌, option_map};
-ghost use Rattle.md_words.specs.Asks.{access_of, array_ask, device_to_add, is_readonly, leaving_of};
+ghost use Rattle.md_words.specs.Asks.{access_of, array_ask, device_to_add, is_readonly, leaving_of, may_part};
 
 use crate::form::{CheckForm, DetailForm, RebuildForm};
 use crate::loss::Loss;
@@ -8,7 +8,7 @@ use md_images::Access;
 
 /// A command with the array that the images make, with the values of its options. `readonly` says that no image may be
 /// changed, `json` that the report is a JSON object.
-#[derive(Clone, Copy, Debug)]
+#[derive(Clone, Copy)]
 pub enum ArrayCommand<'a> {
     /// Shows the array that the images make in one line.
     Assemble {
@@ -134,6 +134,30 @@ impl<'a> ArrayCommand<'a> {
             | ArrayCommand::Add { .. }
             | ArrayCommand::ReAdd { .. }
             | ArrayCommand::Rebuild { .. } => false,
+        }
+    }
+
+    /// Whether it may part the array: it can go on without a member in sync that is not among the images, and it asks first. Each
+    /// command has an arm of its own, so that a new command needs one too.
+    pub fn may_part(self) -> bool
+        ensures { result ≡ may_part (array_ask self.entry) }
+    {
+        match self {
+            ArrayCommand::ServeWritable
+            | ArrayCommand::Write { .. }
+            | ArrayCommand::Resync
+            | ArrayCommand::Stop { .. }
+            | ArrayCommand::Fail { .. }
+            | ArrayCommand::Remove { .. }
+            | ArrayCommand::Add { .. }
+            | ArrayCommand::ReAdd { .. }
+            | ArrayCommand::Rebuild { .. } => true,
+            ArrayCommand::Assemble { .. }
+            | ArrayCommand::Detail { .. }
+            | ArrayCommand::Plan { .. }
+            | ArrayCommand::Read { .. }
+            | ArrayCommand::Serve { .. }
+            | ArrayCommand::Check { .. } => false,
         }
     }
 

@@ -1,6 +1,6 @@
 // A command, and what it may do with the images.
 ghost use Rattle.std.specs.Prelude.{◌≡◌, option_map};
-ghost use Rattle.md_words.specs.Asks.{ask_of, device_to_add, failing_of, fills, is_json, leaving_of, long_task_of, loss_of, member_of, needs_random_bytes, overwritten_by, scan_form, takes_input, tells_by_status, tells_parted};
+ghost use Rattle.md_words.specs.Asks.{ask_of, device_to_add, failing_of, fills, is_json, leaving_of, long_task_of, loss_of, may_part, member_of, needs_random_bytes, overwritten_by, scan_form, takes_input, tells_by_status, tells_parted};
 
 use crate::array_command::ArrayCommand;
 use crate::create_options::CreateOptions;
@@ -11,7 +11,7 @@ use crate::overwritten::Overwritten;
 
 /// A command, with the values of its options: with one image, with images that make no array yet, or with the array that they
 /// make.
-#[derive(Clone, Copy, Debug)]
+#[derive(Clone, Copy)]
 pub enum Command<'a> {
     /// Shows the one image.
     Image(ImageCommand),
@@ -131,6 +131,17 @@ impl<'a> Command<'a> {
                 | ArrayCommand::Fail { .. }
                 | ArrayCommand::Remove { .. },
             ) => Overwritten::Nothing,
+        }
+    }
+
+    /// Whether it can go on without members in sync that are not among the images. Then it asks first.
+    pub fn may_part(self) -> bool
+        ensures { result ≡ may_part (ask_of self.entry) }
+    {
+        match self {
+            Command::Array(command) => command.may_part(),
+            Command::Grow { .. } => true,
+            Command::Image(_) | Command::Scan { .. } | Command::Create(_) => false,
         }
     }
 

@@ -316,7 +316,7 @@ const ASSUME_CLEAN: OptionWords = OptionWords {
 const RUN: OptionWords = OptionWords {
     name: "run",
     value: "",
-    help: "Asks nothing at a terminal, and goes on",
+    help: "Asks nothing, and goes on",
     kind: Kind::Flag,
     required: false,
     default: None,
@@ -398,7 +398,7 @@ pub(crate) const ARRAY_COMMANDS: [CommandWords; 5] = [
         aliases: &[],
         about: "Gives the members of an array a write-intent bitmap that it lacks",
         after_help: help::GROW,
-        options: &[BITMAP, BITMAP_CHUNK],
+        options: &[BITMAP, BITMAP_CHUNK, RUN],
     },
     CommandWords {
         name: "assemble",
@@ -450,6 +450,7 @@ pub(crate) const DATA_COMMANDS: [CommandWords; 6] = [
         after_help: help::SERVE,
         options: &[
             FILL_SERVED,
+            RUN,
             ONLY_READ,
             MAP_SERVED,
             BITMAP_IN_MEMORY,
@@ -461,7 +462,7 @@ pub(crate) const DATA_COMMANDS: [CommandWords; 6] = [
         aliases: &[],
         about: "Writes standard input to the array, and stops it",
         after_help: help::WRITE,
-        options: &[SECTOR, INPUT_COUNT],
+        options: &[SECTOR, INPUT_COUNT, RUN],
     },
     CommandWords {
         name: "check",
@@ -483,14 +484,14 @@ pub(crate) const DATA_COMMANDS: [CommandWords; 6] = [
         aliases: &[],
         about: "Makes the members in sync agree where they may differ, and stops the array",
         after_help: help::RESYNC,
-        options: &[MAP],
+        options: &[RUN, MAP],
     },
     CommandWords {
         name: "stop",
         aliases: &[],
         about: "Stops the array: it is clean then, unless its members may differ",
         after_help: help::STOP,
-        options: &[JSON],
+        options: &[JSON, RUN],
     },
 ];
 
@@ -501,14 +502,14 @@ pub(crate) const MEMBER_COMMANDS: [CommandWords; 3] = [
         aliases: &[],
         about: "Makes a member faulty, and stops the array",
         after_help: help::FAIL,
-        options: &[MEMBER],
+        options: &[MEMBER, RUN],
     },
     CommandWords {
         name: "remove",
         aliases: &[],
         about: "Takes a member that is not in use out of the array, and stops it",
         after_help: help::REMOVE,
-        options: &[MEMBER],
+        options: &[MEMBER, RUN],
     },
     CommandWords {
         name: "add",

@@ -2,7 +2,7 @@
 
 /// What `create` is asked for. The level, the UUID, if one is given, and the name are the words themselves;
 /// what they have to be is looked at later.
-#[derive(Clone, Copy, Debug)]
+#[derive(Clone, Copy)]
 pub struct CreateOptions<'a> {
     pub level: &'a str,
     pub raid_devices: u32,

@@ -3,7 +3,7 @@ ghost use Rattle.std.specs.Prelude.{◌≡◌};
 ghost use Rattle.md_words.specs.Asks.{is_json_of_check, is_json_of_detail, is_json_of_image, is_json_of_rebuild};
 
 /// How the report on one image is shown.
-#[derive(Clone, Copy, Debug)]
+#[derive(Clone, Copy)]
 pub enum ImageForm {
     /// As text.
     Text,
@@ -28,7 +28,7 @@ impl ImageForm {
 }
 
 /// How the report of a check is shown.
-#[derive(Clone, Copy, Debug)]
+#[derive(Clone, Copy)]
 pub enum CheckForm {
     /// In how many chunks members differ, as text.
     Count,
@@ -51,7 +51,7 @@ impl CheckForm {
 }
 
 /// How an array is shown in detail.
-#[derive(Clone, Copy, Debug)]
+#[derive(Clone, Copy)]
 pub enum DetailForm {
     /// As text.
     Text,
@@ -74,7 +74,7 @@ impl DetailForm {
 }
 
 /// How the report of a rebuild is shown.
-#[derive(Clone, Copy, Debug)]
+#[derive(Clone, Copy)]
 pub enum RebuildForm {
     /// The plan of each pass, and then a line, as text.
     Plans,

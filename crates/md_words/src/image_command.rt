@@ -5,7 +5,7 @@ ghost use Rattle.md_words.specs.Asks.{image_ask, is_json, is_json_of_image};
 use crate::form::ImageForm;
 
 /// Shows what stands on the one image that is named, which is only looked at.
-#[derive(Clone, Copy, Debug)]
+#[derive(Clone, Copy)]
 pub enum ImageCommand {
     /// Its superblock, or what stands in its place, though it may be refused.
     Examine { form: ImageForm },

@@ -1,7 +1,7 @@
 // What takes long.
 
 /// What a command does that takes long, so that a terminal is shown its progress.
-#[derive(Clone, Copy, Debug)]
+#[derive(Clone, Copy)]
 pub enum LongTask {
     /// So many sectors of the array are read, or all up to its end.
     Read(Option<u64>),

@@ -1,7 +1,7 @@
 // What a command overwrites.
 
 /// What a command overwrites that perhaps should stay.
-#[derive(Clone, Copy, Debug)]
+#[derive(Clone, Copy)]
 pub enum Overwritten {
     /// Nothing of the kind.
     Nothing,

@@ -4,7 +4,7 @@ ghost use Rattle.std.specs.Str.{bytes_eq};
 ghost use Rattle.clap.specs.Words.{FailsBy, fault_of, first_of, found_of, matched_of, raw_values, rows_of, subcommand_of, subcommand_rows_of};
 ghost use Rattle.md_words.specs.Words.{mdcli};
 ghost use Rattle.md_words.specs.Numbers.{number_or_zero};
-ghost use Rattle.md_words.specs.Parsing.{all_in, ask_found, ask_named, ask_to_change, asked, bitmap_found, bitmap_in, bitmap_word, check_form_in, chunk_in, command_fault, count_in, data_of_found, data_of_in, data_of_word, detail_form_in, exit_code_in, fill_in, full_in, has_maps, image_form_in, image_words, images_found, is_no_size, is_verbose, json_in, lacks_option, list_in, loss_in, map_out_found, map_out_in, map_out_word, map_words, maps_found, member_at, member_fault, member_in, member_named, names_bitmap_alone, names_data_of_alone, names_map_alone, names_no_member, names_no_sectors, names_no_size, needs_readonly, option_fault, options_in, output_found, output_in, output_word, place_in, puts_sectors, quiet_in, readonly_in, rebuild_form_in, resume_found, resume_in, resumes, resumes_alone, run_found, run_in, runs, salvage_in, sector_in, sectors_or_zero, serve_in, size_fault, size_in, text_in, uuid_in, value_fault, verbose_found, verbose_in, words_fault};
+ghost use Rattle.md_words.specs.Parsing.{ask_found, ask_named, ask_to_change, asked, bitmap_found, bitmap_in, bitmap_word, check_form_in, chunk_in, command_fault, count_in, data_of_found, data_of_in, data_of_word, detail_form_in, has_flag, has_maps, image_form_in, image_words, images_found, is_no_size, is_verbose, lacks_option, loss_in, map_out_found, map_out_in, map_out_word, map_words, maps_found, member_at, member_fault, member_in, member_named, names_bitmap_alone, names_data_of_alone, names_map_alone, names_no_member, names_no_sectors, names_no_size, needs_readonly, option_fault, options_in, output_found, output_in, output_word, place_in, puts_sectors, rebuild_form_in, resume_found, resumes, resumes_alone, run_found, runs, sector_in, sectors_or_zero, serve_in, size_fault, size_in, text_in, uuid_in, value_fault, verbose_found, words_fault};
 ghost use Rattle.md_words.specs.Asks.{ask_of, options_of};
 
 use crate::array_command::ArrayCommand;
@@ -51,6 +51,13 @@ fn text_in<'a>(found: &ArgMatches<'a>, name: &str) -> &'a str
     }
 }
 
+// Whether the words have an option that takes no value.
+fn has_flag(found: &ArgMatches<'_>, name: &str) -> bool
+    ensures { result ≡ has_flag name.now (rows_of (found_of found.now)) }
+{
+    text_in(found, name) == "true"
+}
+
 // The UUID, where one is given.
 fn uuid_of<'a>(found: &ArgMatches<'a>) -> Option<&'a str>
     ensures { option_map (λ s. s.now) result ≡ uuid_in (rows_of (found_of found.now)) }
@@ -91,63 +98,21 @@ fn create_options<'a>(found: &ArgMatches<'a>) -> CreateOptions<'a>
         size: size_of(found),
         time: u64_or_zero(text_in(found, "time")),
         write_mostly: write_mostly_of(found),
-        assume_clean: text_in(found, "assume-clean") == "true",
-        json: is_json(found),
+        assume_clean: has_flag(found, "assume-clean"),
+        json: has_flag(found, "json"),
     }
-}
-
-fn is_readonly(found: &ArgMatches<'_>) -> bool
-    ensures { result ≡ readonly_in (rows_of (found_of found.now)) }
-{
-    text_in(found, "readonly") == "true"
-}
-
-fn is_all(found: &ArgMatches<'_>) -> bool
-    ensures { result ≡ all_in (rows_of (found_of found.now)) }
-{
-    text_in(found, "all") == "true"
-}
-
-fn is_list(found: &ArgMatches<'_>) -> bool
-    ensures { result ≡ list_in (rows_of (found_of found.now)) }
-{
-    text_in(found, "list") == "true"
-}
-
-fn is_exit_code(found: &ArgMatches<'_>) -> bool
-    ensures { result ≡ exit_code_in (rows_of (found_of found.now)) }
-{
-    text_in(found, "exit-code") == "true"
-}
-
-fn is_quiet(found: &ArgMatches<'_>) -> bool
-    ensures { result ≡ quiet_in (rows_of (found_of found.now)) }
-{
-    text_in(found, "quiet") == "true"
-}
-
-fn is_salvage(found: &ArgMatches<'_>) -> bool
-    ensures { result ≡ salvage_in (rows_of (found_of found.now)) }
-{
-    text_in(found, "salvage") == "true"
-}
-
-fn is_json(found: &ArgMatches<'_>) -> bool
-    ensures { result ≡ json_in (rows_of (found_of found.now)) }
-{
-    text_in(found, "json") == "true"
 }
 
 fn image_form(found: &ArgMatches<'_>) -> ImageForm
     ensures { result ≡ image_form_in (rows_of (found_of found.now)) }
 {
-    if is_all(found) {
-        if is_json(found) {
+    if has_flag(found, "all") {
+        if has_flag(found, "json") {
             ImageForm::RawJson
         } else {
             ImageForm::Raw
         }
-    } else if is_json(found) {
+    } else if has_flag(found, "json") {
         ImageForm::Json
     } else {
         ImageForm::Text
@@ -157,27 +122,21 @@ fn image_form(found: &ArgMatches<'_>) -> ImageForm
 fn check_form(found: &ArgMatches<'_>) -> CheckForm
     ensures { result ≡ check_form_in (rows_of (found_of found.now)) }
 {
-    if is_json(found) {
+    if has_flag(found, "json") {
         CheckForm::Json
-    } else if is_list(found) {
+    } else if has_flag(found, "list") {
         CheckForm::List
     } else {
         CheckForm::Count
     }
 }
 
-fn is_verbose(found: &ArgMatches<'_>) -> bool
-    ensures { result ≡ verbose_in (rows_of (found_of found.now)) }
-{
-    text_in(found, "verbose") == "true"
-}
-
 fn detail_form(found: &ArgMatches<'_>) -> DetailForm
     ensures { result ≡ detail_form_in (rows_of (found_of found.now)) }
 {
-    if is_json(found) {
+    if has_flag(found, "json") {
         DetailForm::Json
-    } else if is_verbose(found) {
+    } else if has_flag(found, "verbose") {
         DetailForm::Verbose
     } else {
         DetailForm::Text
@@ -187,9 +146,9 @@ fn detail_form(found: &ArgMatches<'_>) -> DetailForm
 fn rebuild_form(found: &ArgMatches<'_>) -> RebuildForm
     ensures { result ≡ rebuild_form_in (rows_of (found_of found.now)) }
 {
-    if is_json(found) {
+    if has_flag(found, "json") {
         RebuildForm::Json
-    } else if is_quiet(found) {
+    } else if has_flag(found, "quiet") {
         RebuildForm::Line
     } else {
         RebuildForm::Plans
@@ -199,23 +158,11 @@ fn rebuild_form(found: &ArgMatches<'_>) -> RebuildForm
 fn loss_of(found: &ArgMatches<'_>) -> Loss
     ensures { result ≡ loss_in (rows_of (found_of found.now)) }
 {
-    if is_salvage(found) {
+    if has_flag(found, "salvage") {
         Loss::Sectors
     } else {
         Loss::Chunks
     }
-}
-
-fn is_fill(found: &ArgMatches<'_>) -> bool
-    ensures { result ≡ fill_in (rows_of (found_of found.now)) }
-{
-    text_in(found, "fill") == "true"
-}
-
-fn is_full(found: &ArgMatches<'_>) -> bool
-    ensures { result ≡ full_in (rows_of (found_of found.now)) }
-{
-    text_in(found, "full") == "true"
 }
 
 // The file that is to be made.
@@ -244,20 +191,6 @@ fn data_of_of<'a>(found: &ArgMatches<'a>) -> Option<&'a str>
     ensures { option_map (λ s. s.now) result ≡ data_of_in (rows_of (found_of found.now)) }
 {
     found.get_str("data-of")
-}
-
-// Whether a read that was interrupted is to go on.
-fn is_resume(found: &ArgMatches<'_>) -> bool
-    ensures { result ≡ resume_in (rows_of (found_of found.now)) }
-{
-    text_in(found, "resume") == "true"
-}
-
-// Whether nothing is to be asked.
-fn is_run(found: &ArgMatches<'_>) -> bool
-    ensures { result ≡ run_in (rows_of (found_of found.now)) }
-{
-    text_in(found, "run") == "true"
 }
 
 // The sectors that a text says, 0 where it says none.
@@ -341,9 +274,9 @@ fn names_no_member(found: &ArgMatches<'_>) -> bool
 fn serve_command<'a>(found: &ArgMatches<'a>) -> Command<'a>
     ensures { ask_of result ≡ serve_in (rows_of (found_of found.now)) }
 {
-    if is_readonly(found) {
+    if has_flag(found, "readonly") {
         Command::Array(ArrayCommand::Serve {
-            fill: is_fill(found),
+            fill: has_flag(found, "fill"),
         })
     } else {
         Command::Array(ArrayCommand::ServeWritable)
@@ -364,7 +297,7 @@ fn command_of<'a>(name: &str, found: &ArgMatches<'a>) -> Command<'a>
         })
     } else if name == "scan" {
         Command::Scan {
-            json: is_json(found),
+            json: has_flag(found, "json"),
         }
     } else if name == "create" {
         Command::Create(create_options(found))
@@ -375,19 +308,19 @@ fn command_of<'a>(name: &str, found: &ArgMatches<'a>) -> Command<'a>
         }
     } else if name == "assemble" {
         Command::Array(ArrayCommand::Assemble {
-            json: is_json(found),
-            readonly: is_readonly(found),
+            json: has_flag(found, "json"),
+            readonly: has_flag(found, "readonly"),
         })
     } else if name == "detail" {
         Command::Array(ArrayCommand::Detail {
             form: detail_form(found),
-            readonly: is_readonly(found),
+            readonly: has_flag(found, "readonly"),
         })
     } else if name == "plan" {
         Command::Array(ArrayCommand::Plan {
             member: member_in(found),
-            json: is_json(found),
-            readonly: is_readonly(found),
+            json: has_flag(found, "json"),
+            readonly: has_flag(found, "readonly"),
         })
     } else if name == "read" {
         let sector = sector_of(found);
@@ -395,16 +328,16 @@ fn command_of<'a>(name: &str, found: &ArgMatches<'a>) -> Command<'a>
         Command::Array(ArrayCommand::Read {
             sector,
             count,
-            fill: is_fill(found),
-            readonly: is_readonly(found),
+            fill: has_flag(found, "fill"),
+            readonly: has_flag(found, "readonly"),
         })
     } else if name == "serve" {
         serve_command(found)
     } else if name == "check" {
         Command::Array(ArrayCommand::Check {
             form: check_form(found),
-            exit_code: is_exit_code(found),
-            readonly: is_readonly(found),
+            exit_code: has_flag(found, "exit-code"),
+            readonly: has_flag(found, "readonly"),
         })
     } else {
         command_that_changes(name, found)
@@ -424,7 +357,7 @@ fn command_that_changes<'a>(name: &str, found: &ArgMatches<'a>) -> Command<'a>
         Command::Array(ArrayCommand::Resync)
     } else if name == "stop" {
         Command::Array(ArrayCommand::Stop {
-            json: is_json(found),
+            json: has_flag(found, "json"),
         })
     } else if name == "fail" {
         Command::Array(ArrayCommand::Fail {
@@ -437,13 +370,13 @@ fn command_that_changes<'a>(name: &str, found: &ArgMatches<'a>) -> Command<'a>
     } else if name == "add" {
         Command::Array(ArrayCommand::Add {
             device: text_in(found, "device"),
-            json: is_json(found),
+            json: has_flag(found, "json"),
         })
     } else if name == "re-add" {
         Command::Array(ArrayCommand::ReAdd {
             device: text_in(found, "device"),
-            full: is_full(found),
-            json: is_json(found),
+            full: has_flag(found, "full"),
+            json: has_flag(found, "json"),
         })
     } else if name == "rebuild" {
         Command::Array(ArrayCommand::Rebuild {
@@ -502,9 +435,9 @@ fn request_of<'a>(alloc: Global, matches: &ArgMatches<'a>) -> Result<Request<'a>
         output: output_of(found),
         bitmap: bitmap_of(found),
         data_of: data_of_of(found),
-        resume: is_resume(found),
-        verbose: is_verbose(found),
-        run: is_run(found),
+        resume: has_flag(found, "resume"),
+        verbose: has_flag(found, "verbose"),
+        run: has_flag(found, "run"),
     })
 }
 
@@ -615,7 +548,7 @@ fn check_values(alloc: Global, matches: &ArgMatches<'_>) -> Result<(), Error>
 fn names_map_alone(found: &ArgMatches<'_>) -> bool
     ensures { result ≡ names_map_alone (rows_of (found_of found.now)) }
 {
-    map_out_of(found).is_some() && !is_fill(found) && !is_resume(found)
+    map_out_of(found).is_some() && !has_flag(found, "fill") && !has_flag(found, "resume")
 }
 
 // Whether maps of images are named.
@@ -629,14 +562,14 @@ fn has_maps(found: &ArgMatches<'_>) -> bool
 fn needs_readonly(name: &str, found: &ArgMatches<'_>) -> bool
     ensures { result ≡ needs_readonly name.now (rows_of (found_of found.now)) }
 {
-    name == "serve" && !is_readonly(found) && (is_fill(found) || has_maps(found))
+    name == "serve" && !has_flag(found, "readonly") && (has_flag(found, "fill") || has_maps(found))
 }
 
 // Whether a bitmap is named for an array whose images may be changed.
 fn names_bitmap_alone(name: &str, found: &ArgMatches<'_>) -> bool
     ensures { result ≡ names_bitmap_alone name.now (rows_of (found_of found.now)) }
 {
-    bitmap_of(found).is_some() && !is_readonly(found) && name != "grow"
+    bitmap_of(found).is_some() && !has_flag(found, "readonly") && name != "grow"
 }
 
 // Whether a command puts out sectors.
@@ -650,15 +583,18 @@ fn puts_sectors(name: &str) -> bool
 fn names_data_of_alone(name: &str, found: &ArgMatches<'_>) -> bool
     ensures { result ≡ names_data_of_alone name.now (rows_of (found_of found.now)) }
 {
-    data_of_of(found).is_some() && (!is_readonly(found) || puts_sectors(name) && !is_fill(found))
+    data_of_of(found).is_some()
+        && (!has_flag(found, "readonly") || puts_sectors(name) && !has_flag(found, "fill"))
 }
 
 // Whether a read is to go on that changes images, or of which a file is not named.
 fn resumes_alone(found: &ArgMatches<'_>) -> bool
     ensures { result ≡ resumes_alone (rows_of (found_of found.now)) }
 {
-    is_resume(found)
-        && (!is_readonly(found) || output_of(found).is_none() || map_out_of(found).is_none())
+    has_flag(found, "resume")
+        && (!has_flag(found, "readonly")
+            || output_of(found).is_none()
+            || map_out_of(found).is_none())
 }
 
 // Whether an option is named without one that it needs.

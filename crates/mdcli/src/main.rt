@@ -1,47 +1,34 @@
 //! The program: commands over images in files.
 //!
 //! Start with `main`. It has the words parsed (`md_words`), lays the maps of `--map` over the files, makes the files of `--output` and
-//! `--map-out` or goes on with them (`md_outputs`), and leaves the rest to `run` of `md_cli`. Where `scan` is given no image, it goes
-//! over all block devices.
-//!
-//! `images/`: images in files, and under the maps of those that lack sectors.
-//! `outputs/`: where a command puts out, and what is told of its files.
-//! `progress/`: how far a command is, and the line that a terminal is shown of it.
+//! `--map-out` or goes on with them, all by `md_outputs`, and leaves the rest to `run` of `md_cli`. Where `scan` is given no image, it
+//! goes over all block devices (`all_devices.rt`). What comes before `run` is refused by `refused_maps.rt` and `refused_reads.rt`.
 //!
 //! ```
 //! mdcli detail --readonly --map sda.img=sda.map sda.img sdb.img
 //! ```
 #![tactic(auto)]
 
-mod arguments;
-mod images;
-mod outputs;
-mod person;
-mod progress;
-mod prompt;
-mod random;
-mod standard_input;
+mod all_devices;
+mod refused_maps;
+mod refused_reads;
 
-use crate::arguments::arguments;
-use crate::images::{
-    FileImages, Masked, masked_images, rebuilt_from, scan_all, scan_of_all, tell_refusal,
-    tell_unlisted,
-};
-use crate::outputs::{Ending, Opened, Outputs, if_resumed, is_output_ended, opened_of, output_of};
-use crate::person::Person;
-use crate::progress::Progress;
-use crate::prompt::Prompt;
-use crate::random::bytes_if_needed;
-use crate::standard_input::bytes_left_if_taken;
+use crate::all_devices::scan_all;
+use crate::refused_maps::{tell_fault, tell_refusal};
+use crate::refused_reads::if_resumed;
 use clap::Error;
 use md_badblocks::BadSet;
 use md_cli::{Session, run, stand_in_of};
-use md_commands::Input;
-use md_examine::{Buffered, Sink};
 use md_files::{Cleared, CodedJson, Line, MapText};
-use md_messages::Messages;
-use md_outputs::{Names, identity_of, resumed_of};
-use md_read_commands::{Gaps, StandIn};
+use md_outputs::{
+    Ending, FileImages, Masked, Names, Opened, Outputs, Person, Progress, Prompt,
+    are_streams_taken, bytes_if_needed, bytes_left_if_taken, given_words, goes_on_over,
+    identity_of, is_output_ended, masked_images, opened_of, output_of, rebuilt_from, resumed_of,
+    scan_of_all, tell_unlisted,
+};
+use md_read_commands::StandIn;
+use md_refusals::CommandFault;
+use md_streams::{Buffered, Gaps, Input, Messages, Sink};
 use md_words::{LongTask, Request, parse};
 use std::alloc::{AllocError, Global};
 use std::fs::File;
@@ -75,6 +62,7 @@ fn main(rt: HostRuntime) -> ExitCode {
         messages,
         progress: &progress,
     };
+    let mut prompt = Prompt::new(&rt, &progress, person);
     let mut err = standard_error(&setting, &parsed);
     // Output that goes elsewhere leaves the line of progress as it is.
     let standard = Cleared::new(io::writer(&rt), &progress, rt.stdout().is_terminal());
@@ -83,13 +71,14 @@ fn main(rt: HostRuntime) -> ExitCode {
             mut images,
             texts,
             lacking,
+            ..
         },
-    ) = masked_of(&setting, &parsed, &mut err)
+    ) = masked_of(&setting, &parsed, &mut prompt, &mut err)
     else {
         return ExitCode::from(REFUSED);
     };
     let begun = Begun::of_parsed(
-        &setting, &parsed, &texts, &lacking, standard, person, &mut err,
+        &setting, &parsed, &texts, &lacking, standard, prompt, &mut err,
     );
     let Some(
         Begun {
@@ -105,7 +94,9 @@ fn main(rt: HostRuntime) -> ExitCode {
         Some(json) => scan_devices(&setting, json, &mut session.out, &mut err),
         None => run(&mut session, words, parsed, &mut images, &mut err, messages),
     };
-    if let Some(names) = rebuilt {
+    if let Some(names) = rebuilt
+        && progress.has_read()
+    {
         tell_unlisted(rt.alloc(), &names, &lacking, &mut images, &mut err);
     }
     let is_done = is_ended(&setting, session, ending, &mut err);
@@ -114,7 +105,7 @@ fn main(rt: HostRuntime) -> ExitCode {
 
 // The words, or none where they are not taken: says why.
 fn arguments_if_taken(rt: &HostRuntime) -> Option<Vec<String>> {
-    match arguments(rt) {
+    match given_words(rt) {
         Ok(args) => Some(args),
         Err(fault) => {
             let _ = eprintln!(rt; "mdcli: {fault}");
@@ -170,7 +161,7 @@ impl<'a, 'b, S: Sink + Drop> Begun<'a, 'b, S> {
         texts: &[MapText],
         lacking: &'b [BadSet],
         standard: S,
-        person: Person,
+        prompt: Prompt<'b>,
         err: &mut E,
     ) -> Option<Begun<'a, 'b, S>> {
         let (rt, messages) = (setting.rt, setting.messages);
@@ -181,7 +172,7 @@ impl<'a, 'b, S: Sink + Drop> Begun<'a, 'b, S> {
             let _ = is_output_ended(opened.outputs, output, names, messages, err);
             return None;
         };
-        let session = session_over(setting, parsed, lacking, opened, person);
+        let session = session_over(setting, parsed, lacking, opened, prompt);
         Some(Begun { session, ending })
     }
 }
@@ -201,26 +192,37 @@ fn is_ended<S: Sink + Drop, E: Write + Sink>(
     ending.is_done(rt, outputs, count, of_all, setting.messages, err)
 }
 
-// Lays the maps over the images. Says on `err` why it can't.
+// Lays the maps over the images, if the streams are taken, and it is agreed to maps that are perhaps other copies'. Says on `err` why it
+// can't.
 fn masked_of<'a, F, E: Write + Sink>(
     setting: &Setting<'a>,
     parsed: &Result<Request<'_>, F>,
+    prompt: &mut Prompt<'_>,
     err: &mut E,
 ) -> Option<Masked<'a>> {
     let (rt, progress) = (setting.rt, setting.progress);
-    let files = FileImages::new(rt, progress);
+    let files = FileImages::new(rt, progress, is_run(parsed));
     let Ok(request) = parsed else {
         return Some(Masked::without_maps(rt.alloc(), files));
     };
-    match masked_images(rt, request, files, err) {
-        Ok(masked) => Some(masked),
-        Err(fault) => {
-            let standard = Cleared::new(io::writer(rt), progress, rt.stdout().is_terminal());
-            let mut out = CodedJson::new(standard, request.command.is_json());
-            tell_refusal(rt.alloc(), fault, request, setting.messages, &mut out, err);
-            None
-        }
+    if !are_streams_taken(rt, request, setting.messages, err) {
+        return None;
     }
+    let masked = masked_images(rt, request, files, err);
+    let standard = Cleared::new(io::writer(rt), progress, rt.stdout().is_terminal());
+    let mut out = CodedJson::new(standard, request.command.is_json());
+    let messages = setting.messages;
+    match masked {
+        Ok(masked) => {
+            if goes_on_over(prompt, request.command, &masked.stray, err) {
+                return Some(masked);
+            }
+            let fault = CommandFault::Declined;
+            tell_fault(rt.alloc(), &fault, request, messages, &mut out, err);
+        }
+        Err(fault) => tell_refusal(rt.alloc(), fault, request, messages, &mut out, err),
+    }
+    None
 }
 
 // Opens or makes the file of a read, if one is asked for, or says on `err` why it can't; these are the maps.
@@ -246,7 +248,7 @@ fn session_over<'b, S: Sink + Drop, F>(
     parsed: &Result<Request<'_>, F>,
     lacking: &'b [BadSet],
     opened: Opened<'b, S>,
-    person: Person,
+    prompt: Prompt<'b>,
 ) -> FileSession<'b, S> {
     let (rt, progress) = (setting.rt, setting.progress);
     let Opened {
@@ -262,7 +264,7 @@ fn session_over<'b, S: Sink + Drop, F>(
         input: Input::of_length(rt.stdin(), told),
         out: CodedJson::new(Buffered::new(rt.alloc(), outputs), is_json(parsed)),
         watch: progress,
-        asker: Prompt::new(rt, progress, person),
+        asker: prompt,
         random_bytes: bytes_if_needed(rt, parsed),
         gaps: earlier,
         is_all_out: false,
@@ -300,7 +302,7 @@ fn scan_devices<S: Sink, E: Write + Sink>(
     out: &mut S,
     err: &mut E,
 ) -> u8 {
-    let mut devices = FileImages::new(setting.rt, setting.progress);
+    let mut devices = FileImages::new(setting.rt, setting.progress, false);
     scan_all(setting.rt, json, setting.messages, &mut devices, out, err)
 }
 
@@ -317,6 +319,14 @@ fn messages_of<E>(parsed: &Result<Request<'_>, E>, is_terminal: bool) -> Message
 fn is_verbose<E>(parsed: &Result<Request<'_>, E>) -> bool {
     match parsed {
         Ok(request) => request.verbose,
+        Err(_) => false,
+    }
+}
+
+// Whether nobody is to be asked.
+fn is_run<E>(parsed: &Result<Request<'_>, E>) -> bool {
+    match parsed {
+        Ok(request) => request.run,
         Err(_) => false,
     }
 }

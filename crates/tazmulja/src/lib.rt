@@ -66,23 +66,26 @@ pub use md_write::write;
 
 // A rebuild: its plan, the checker of plans, and what is read for it.
 pub use md_cert::{
-    Certificate, ChunkList, NoMemory, Plan, Row, Slot, Slots, Table, Verdict, check,
+    Certificate, ChunkList, NoMemory, Plan, Planned, Row, Slot, Slots, Table, Verdict, check,
 };
 pub use md_collect::{Board, Collector, Refusal, Report, Share, read_chunk};
-pub use md_copy::{Gate, RebuildFault, Rebuilt, Salvaged, rebuild, salvage, table};
-pub use md_plan::{Planned, plan};
+pub use md_copy::{RebuildFault, Rebuilt, Salvaged, rebuild, salvage, table};
+pub use md_plan::plan;
+
+// Where the output of commands goes, where their input comes from, who watches and who is asked.
+pub use md_streams::{
+    Asker, FillWatch, Gaps, Gate, Input, Messages, Output, ReadWatch, Sink, SinkFault, Source,
+    Watch,
+};
 
 // Reports.
-pub use md_examine::{Output, Sink, SinkFault, examine, examine_badblocks, examine_bitmap};
+pub use md_examine::{examine, examine_badblocks, examine_bitmap};
 pub use md_report::{check_report, detail, plan_report, rebuilt_report, summary};
 
 // Commands, over images by name.
-pub use md_cli::{FillWatch, ReadWatch, Session, run};
-pub use md_commands::{Input, Source, Watch};
+pub use md_cli::{Session, run};
 pub use md_images::{Images, MemImages};
-pub use md_messages::{Asker, Messages};
 pub use md_nbd::{ClientWatch, RefusedRequest};
-pub use md_read_commands::Gaps;
 pub use md_words::{Request, parse};
 
 // What holds over each life of an array: functions with empty bodies.

@@ -8,6 +8,7 @@ use Rattle.std.proofs.Math.Bool.{or-true}
 use Rattle.md_model.specs.Sectors.{put}
 use Rattle.md_model.proofs.Puts.{put-at}
 use Rattle.md_kept_members.proofs.Members.Counting.{some_counted}
+pub use Rattle.md_state.proofs.OneWrite.{at_set_same, got_other}
 
 pub got_in_map : {X Y : Type 0} (f : X → Y) (xs : List X) (k : ℕ) (x : X) → slice_get xs k ≡ Some x → slice_get (map f xs) k ≡ Some (f x)
 got_in_map f xs k x e = slice_get-map f xs k ∙ ap (option_map f) e
@@ -44,18 +45,6 @@ two_counted p (z ∷ xs) (suc j) zero x y h e f s t = absurd (omega arith)
 two_counted p (z ∷ xs) (suc j) (suc k) x y h e f s t = omega (arith, count_by-cons p z xs, two_counted p xs j k x y (omega arith) e f s t)
 
 -- ---- a list with one element replaced
-pub at_set_same : {X : Type 0} (xs : List X) (k : ℕ) (y : X) → k < length xs → slice_get (set xs k y) k ≡ Some y
-at_set_same xs k y within =
-    let long : k < length (set xs k y) = omega (arith, length-set xs k y) in
-    slice_get-get_or (set xs k y) k y long ∙ ap Some (get_or-set_same xs k y y within)
-
-pub got_other : {X : Type 0} (xs : List X) (k j : ℕ) (y : X) → j ≢ k → slice_get (set xs k y) j ≡ slice_get xs j
-got_other [] k j y apart = refl
-got_other (x ∷ xs) zero zero y apart = absurd (apart refl)
-got_other (x ∷ xs) zero (suc j) y apart = refl
-got_other (x ∷ xs) (suc k) zero y apart = refl
-got_other (x ∷ xs) (suc k) (suc j) y apart = got_other xs k j y (λ e. apart (ap suc e))
-
 pub got_put : {X : Type 0} (xs : List X) (k : ℕ) (y : X) → k < length xs → (j : ℕ) → slice_get (set xs k y) j ≡ put k (Some y) (slice_get xs) j
 got_put xs k y within j = put-at k (Some y) (slice_get xs) j (λ z. slice_get (set xs k y) j ≡ z)
     (λ same. ap (slice_get (set xs k y)) same ∙ at_set_same xs k y within)

@@ -7,9 +7,9 @@ ghost use Rattle.md_array.specs.Consistency.{IsConsistent};
 ghost use Rattle.md_array.specs.Steps.CopyData.{CopyHappens};
 
 use crate::mirror::Mirror;
-use crate::steps::write_member::put_on;
 use md_device::Device;
 use md_faults::CopyFault;
+use md_state::put_on;
 
 impl<D: Device + Drop> Mirror<D> {
     /// Writes to member k what another member in sync holds from this sector of the array on, in one

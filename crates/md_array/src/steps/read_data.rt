@@ -11,8 +11,8 @@ ghost use Rattle.md_state.specs.View.{Disk, disk_of};
 ghost use Rattle.md_array.specs.Consistency.{IsConsistent};
 
 use crate::mirror::Mirror;
-use crate::steps::write_member::sector_on;
 use md_device::{Device, ReadFault};
+use md_state::sector_on;
 
 impl<D: Device + Drop> Mirror<D> {
     /// Fills `buf` with what member k holds from this sector of the array on, in one read of its device.

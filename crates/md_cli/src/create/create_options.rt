@@ -4,8 +4,8 @@ ghost use Rattle.md_words.specs.Asks.{options_of};
 ghost use Rattle.md_cli.specs.CreateOptions.{AreParamsOf, bytes_of_kib, is_raid1, create_option_fault, sectors_of_kib, set_name_of};
 
 use crate::create::set_uuid::set_uuid_of;
-use md_commands::OptionFault;
 use md_create::CreateParams;
+use md_refusals::OptionFault;
 use md_words::CreateOptions;
 
 // The longest name of an array, in bytes.

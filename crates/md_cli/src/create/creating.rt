@@ -15,12 +15,12 @@ use crate::create::show_devices::show_created;
 use crate::create::shown_names::shown_names;
 use crate::create::sizing::sizes_of;
 use crate::session::Session;
-use md_commands::CommandFault;
 use md_create::{CreateFault, CreateParams, NewMember, create};
 use md_device::Device;
-use md_examine::Sink;
 use md_images::{Access, ImageWord, Images, MissingWord, image_list, put_back, take_images};
-use md_messages::{Asker, Notices, ask_first};
+use md_messages::{Notices, ask_first};
+use md_refusals::CommandFault;
+use md_streams::{Asker, Sink};
 use md_words::Command;
 use std::alloc::Global;
 

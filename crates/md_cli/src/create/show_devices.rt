@@ -7,9 +7,9 @@ ghost use Rattle.md_cli.specs.Arrays.{ShowsDevices, disks};
 
 use crate::show_short::show_short;
 use md_array::Mirror;
-use md_commands::CommandFault;
 use md_device::Device;
-use md_examine::Sink;
+use md_refusals::CommandFault;
+use md_streams::Sink;
 use std::alloc::Global;
 
 /// Opens devices as a mirror and shows it in one line. They come back in their order.

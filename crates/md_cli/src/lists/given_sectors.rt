@@ -5,10 +5,10 @@ ghost use Rattle.md_kept_members.specs.View.{MemberView};
 ghost use Rattle.md_state.specs.Members.{IsMember};
 ghost use Rattle.md_cli.specs.Lacking.{GivesSector, IsGivenBySome, missing_at};
 
-use crate::lists::trial_list::{add_sectors, same_list};
 use md_array::Mirror;
 use md_badblocks::BadSet;
 use md_device::Device;
+use md_kept_members::add_sectors;
 use std::alloc::{AllocError, Global};
 
 /// Which of these sectors of the array some member in sync gives: its list doesn't have them, and its image doesn't lack them.
@@ -66,7 +66,7 @@ fn sectors_there<D: Device + Drop>(
         × (IsBad (missing_at lacking.now j) (m.superblock.data_offset + s) → ⊥))) }
 {
     let offset = mirror.own(j).data_offset;
-    let mut part = same_list(alloc, sectors)?;
+    let mut part = sectors.try_clone(alloc)?;
     remove_placed(&mut part, offset, mirror.bad(j))?;
     let Some(missing) = lacking.get(j) else {
         return Ok(part);

@@ -11,15 +11,16 @@ ghost use Rattle.md_cli.specs.Lacking.{AreCountedAsListed, AreHoles, CountsBefor
 
 use crate::lists::given_sectors::given_sectors;
 use crate::lists::marked_sectors::{marked_sectors, unmarked_sectors};
-use crate::lists::trial_list::{add_sectors, has_room_with, same_list};
+use crate::lists::trial_list::has_room_with;
 use md_array::{Mirror, OpenFault};
 use md_badblocks::BadSet;
 use md_device::Device;
+use md_kept_members::add_sectors;
 use md_words::{ArrayCommand, Command, Loss};
 use std::alloc::{AllocError, Global};
 
 /// Which lists grow by what images lack where the array is to be resynced.
-#[derive(Clone, Copy, Debug, PartialEq, Eq)]
+#[derive(Clone, Copy)]
 pub(crate) enum BeforeResync {
     /// All of them: there is no resync, or what nobody gives is listed by all before a member comes into sync.
     All,
@@ -30,7 +31,7 @@ pub(crate) enum BeforeResync {
 }
 
 /// How lists grow by what images lack: whether each has to fit its log, and which of them grow before a resync.
-#[derive(Clone, Copy, Debug)]
+#[derive(Clone, Copy)]
 pub(crate) struct Growth {
     pub(crate) must_fit: bool,
     pub(crate) before_resync: BeforeResync,
@@ -69,8 +70,8 @@ fn growth_of(command: ArrayCommand<'_>) -> Growth
     }
 }
 
-// Whether sectors are lost, and not their chunks.
-fn loses_sectors(command: ArrayCommand<'_>) -> bool
+/// Whether sectors are lost, and not their chunks.
+pub(crate) fn loses_sectors(command: ArrayCommand<'_>) -> bool
     ensures { result ≡ is_sectors (loss_of (array_ask command.entry)) }
 {
     match Command::Array(command).loss() {
@@ -223,7 +224,7 @@ fn unmarked_or_given<D: Device + Drop>(
         ↔ (IsBad holes.now s × CountsBefore Given lacking.now mirror.now.array s)) }
 {
     if !mirror.has_two_in_sync() {
-        return same_list(alloc, holes);
+        return holes.try_clone(alloc);
     }
     let mut sectors = unmarked_sectors(alloc, mirror, holes)?;
     let given = given_sectors(alloc, mirror, lacking, holes)?;

@@ -8,9 +8,10 @@ ghost use Rattle.md_cli.specs.MapOfTarget.{GoesOnIf, LacksInPart, LacksInTarget,
 use crate::lists::holes::lacks_some;
 use md_array::Mirror;
 use md_badblocks::BadSet;
-use md_commands::{CommandFault, OptionFault};
 use md_device::Device;
-use md_messages::{Asker, Notices, ask_first};
+use md_messages::{Notices, ask_first};
+use md_refusals::{CommandFault, OptionFault};
+use md_streams::Asker;
 use md_words::{ArrayCommand, Command};
 use std::alloc::Global;
 

@@ -10,11 +10,11 @@ ghost use Rattle.md_cli.specs.Streams.{streams_of};
 use crate::lists::storing_lists::{ready_lists, store_lists, stores_early};
 use crate::open::Opened;
 use crate::performing::perform;
-use crate::read_watch::ReadWatch;
 use crate::session::Session;
-use md_commands::{CommandFault, Source};
 use md_device::Device;
-use md_examine::Sink;
+use md_nbd::ClientWatch;
+use md_refusals::CommandFault;
+use md_streams::{ReadWatch, Sink, Source};
 use md_words::ArrayCommand;
 use std::sync::Wait;
 use std::thread::Threads;
@@ -26,7 +26,7 @@ pub(crate) fn perform_and_store<
     T: Threads + Wait + Sync,
     R: Source + Drop,
     S: Sink + Drop,
-    W: ReadWatch + Sync,
+    W: ReadWatch + ClientWatch + Sync,
     A: Drop,
 >(
     session: &mut Session<'_, T, R, S, W, A>,
@@ -55,7 +55,7 @@ fn store_and_perform<
     T: Threads + Wait + Sync,
     R: Source + Drop,
     S: Sink + Drop,
-    W: ReadWatch + Sync,
+    W: ReadWatch + ClientWatch + Sync,
     A: Drop,
 >(
     session: &mut Session<'_, T, R, S, W, A>,

@@ -4,18 +4,20 @@ ghost use Rattle.md_array.specs.Consistency.{IsConsistent};
 ghost use Rattle.md_kept_members.specs.View.{MemberView};
 ghost use Rattle.md_state.specs.Members.{IsInSync};
 ghost use Rattle.md_state.specs.Steps.WriteMember.{IsNotDue};
-ghost use Rattle.md_words.specs.Asks.{array_ask};
-ghost use Rattle.md_cli.specs.Lacking.{IsLacking};
-ghost use Rattle.md_cli.specs.StoringLists.{FailsFrom, FailsListStore, FailsToReady, FailsToStoreDue, IsReadiedToStore, IsToReady, MayStore, ReadiesToStore, StoresDue, StoresEarly, StoresFrom, StoresOne, fault_of_part, stores_lists};
+ghost use Rattle.md_words.specs.Asks.{array_ask, loss_of};
+ghost use Rattle.md_cli.specs.Lacking.{IsLacking, is_sectors};
+ghost use Rattle.md_cli.specs.StoringLists.{FailsFrom, FailsListStore, FailsToReady, FailsToStoreDue, IsReadiedToStore, IsToReady, MayStore, ReadiesToStore, RefusesResyncFor, ResyncsFor, StoresDue, StoresEarly, StoresFrom, StoresOne, fault_of_part, stores_lists};
 
-use crate::lists::holes::is_lacking;
+use crate::lists::holes::{is_lacking, loses_sectors};
 use crate::lists::trial_list::usable_room;
 use md_array::Mirror;
 use md_badblocks::BadSet;
-use md_commands::{CommandFault, resync_if_needed};
+use md_commands::{resync_if_needed, resync_to_salvage};
 use md_copy::RebuildFault;
 use md_device::Device;
 use md_metadata::{PartFault, store_list, store_records};
+use md_refusals::CommandFault;
+use md_resync::ResyncFault;
 use md_words::ArrayCommand;
 use std::alloc::Global;
 
@@ -55,14 +57,14 @@ pub(crate) fn ready_lists<D: Device + Drop>(
     ensures gives { MatchResult result
         (λ _. ReadiesToStore (array_ask command.entry) lacking.now mirror.old mirror.new)
         (λ fault. IsToReady (array_ask command.entry) lacking.now mirror.old.array
-        × FailsToReady mirror.old mirror.new fault) }
+        × FailsToReady (array_ask command.entry) mirror.old mirror.new fault) }
     ensures as_many { length mirror.new.disks ≡ length mirror.old.disks }
     ensures sound { OnOk result (IsConsistent mirror.new) }
 {
     if !is_to_ready(command, mirror, lacking) {
         return Ok(());
     }
-    resync_and_store_due(alloc, mirror)
+    resync_and_store_due(alloc, command, mirror)
 }
 
 // Whether the command stores lists, and may rebuild a member from copies that lack something.
@@ -99,16 +101,37 @@ fn is_some_lacking<D: Device + Drop>(mirror: &Mirror<D>, lacking: &[BadSet]) -> 
 // The array is resynced if it has to be, and then superblocks of members in sync that are due are stored.
 fn resync_and_store_due<D: Device + Drop>(
     alloc: Global,
+    command: ArrayCommand<'_>,
     mirror: &mut Mirror<D>,
 ) -> Result<(), CommandFault>
     requires sound { IsConsistent mirror.old }
-    ensures gives { MatchResult result (λ _. IsReadiedToStore mirror.old mirror.new)
-        (FailsToReady mirror.old mirror.new) }
+    ensures gives { MatchResult result
+        (λ _. IsReadiedToStore (array_ask command.entry) mirror.old mirror.new)
+        (FailsToReady (array_ask command.entry) mirror.old mirror.new) }
     ensures as_many { length mirror.new.disks ≡ length mirror.old.disks }
     ensures sound { OnOk result (IsConsistent mirror.new) }
 {
-    resync_if_needed(alloc, mirror).map_err(CommandFault::Resync)?;
+    resync_for(alloc, command, mirror).map_err(CommandFault::Resync)?;
     store_due(mirror)
+}
+
+// The array is resynced if it has to be. For a salvage a sector that can't be read does not end that.
+fn resync_for<D: Device + Drop>(
+    alloc: Global,
+    command: ArrayCommand<'_>,
+    mirror: &mut Mirror<D>,
+) -> Result<(), ResyncFault>
+    requires sound { IsConsistent mirror.old }
+    ensures gives { MatchResult result
+        (λ _. ResyncsFor (is_sectors (loss_of (array_ask command.entry))) mirror.old mirror.new)
+        (RefusesResyncFor (is_sectors (loss_of (array_ask command.entry))) mirror.old mirror.new) }
+    ensures as_many { length mirror.new.disks ≡ length mirror.old.disks }
+    ensures sound { IsConsistent mirror.new }
+{
+    if loses_sectors(command) {
+        return resync_to_salvage(alloc, mirror);
+    }
+    resync_if_needed(alloc, mirror)
 }
 
 // Superblocks of members in sync that are due are stored, while the mirror runs.

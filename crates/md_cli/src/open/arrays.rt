@@ -7,13 +7,13 @@ ghost use Rattle.md_cli.specs.Running.{OpensWithBitmap};
 ghost use Rattle.md_cli.specs.Streams.{told_of};
 
 use crate::growing::chunk_in_memory;
-use crate::open::devices::{look_at_devices, open_devices};
-use crate::read_watch::ReadWatch;
+use crate::open::devices::{change_devices, look_at_devices};
 use crate::session::Session;
-use md_commands::{CommandFault, Source};
-use md_examine::Sink;
 use md_images::{Images, MissingWord, image_list, put_back, take_images};
-use md_messages::{Asker, Notices};
+use md_messages::Notices;
+use md_nbd::ClientWatch;
+use md_refusals::CommandFault;
+use md_streams::{Asker, ReadWatch, Sink, Source};
 use md_words::ArrayCommand;
 use std::alloc::{AllocError, Global};
 use std::sync::Wait;
@@ -27,7 +27,7 @@ pub(crate) fn with_array<
     T: Threads + Wait + Sync,
     R: Source + Drop,
     S: Sink + Drop,
-    W: ReadWatch + Sync,
+    W: ReadWatch + ClientWatch + Sync,
     A: Asker + Drop,
 >(
     session: &mut Session<'_, T, R, S, W, A>,
@@ -57,7 +57,7 @@ pub(crate) fn with_array<
         put_back(images, words, devices);
         return result;
     }
-    let (devices, result) = open_devices(session, command, devices, notices, names);
+    let (devices, result) = change_devices(session, command, devices, notices, names);
     put_back(images, words, devices);
     result
 }

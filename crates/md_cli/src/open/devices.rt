@@ -1,26 +1,28 @@
 // What commands do with the devices of images, as an array.
-ghost use Rattle.std.specs.Prelude.{◌≡◌, ◌+◌, ◌<◌, ◌≤◌, [], IfOk, is_some, length, option_map, true, vec_capacity};
+ghost use Rattle.std.specs.Prelude.{◌≡◌, ◌<◌, ◌≤◌, [], IfOk, None, is_some, length, option_map, true, vec_capacity};
 ghost use Rattle.md_state.specs.View.{disk_of};
 ghost use Rattle.md_words.specs.Asks.{array_ask, device_to_add};
 ghost use Rattle.md_messages.specs.Noticed.{with_dropped};
 ghost use Rattle.md_messages.specs.Question.{question};
 ghost use Rattle.md_messages.specs.Telling.{texts};
-ghost use Rattle.md_cli.specs.Arrays.{LooksAtDevices, OpensDevices, TakesLast, answer_of_overlays, disks};
-ghost use Rattle.md_cli.specs.Opened.{beside_place, count, with_beside};
+ghost use Rattle.md_cli.specs.AllNamed.{ChecksNamed};
+ghost use Rattle.md_cli.specs.Arrays.{ChangesDevices, LooksAtDevices, OpensDevices, answer_of_overlays, disks};
+ghost use Rattle.md_cli.specs.Opened.{beside_place, with_beside};
 ghost use Rattle.md_cli.specs.Streams.{told_of};
 
 use crate::lists::{goes_on, open_lacking, perform_and_store};
+use crate::open::all_named::check_named;
 use crate::open::in_memory::{with_bitmap, with_stand_in};
-use crate::open::opened::{Opened, all_back, room_for};
-use crate::read_watch::ReadWatch;
+use crate::open::opened::{Opened, all_back, room_for, take_beside};
 use crate::session::Session;
 use md_array::OpenFault;
-use md_commands::{CommandFault, Source};
 use md_device::Device;
-use md_examine::Sink;
 use md_images::{SharedRead, lay_over};
-use md_messages::{Asker, Notices};
+use md_messages::Notices;
 use md_metadata::GrowFault;
+use md_nbd::ClientWatch;
+use md_refusals::CommandFault;
+use md_streams::{Asker, ReadWatch, Sink, Source};
 use md_words::{ArrayCommand, Command};
 use std::alloc::Global;
 use std::sync::Wait;
@@ -34,7 +36,7 @@ pub(crate) fn look_at_devices<
     T: Threads + Wait + Sync,
     R: Source + Drop,
     S: Sink + Drop,
-    W: ReadWatch + Sync,
+    W: ReadWatch + ClientWatch + Sync,
     A: Asker + Drop,
 >(
     session: &mut Session<'_, T, R, S, W, A>,
@@ -80,6 +82,46 @@ fn answer_of_overlays(answer: Result<(), CommandFault>) -> Result<(), CommandFau
     }
 }
 
+/// Does a command with devices that may be changed. If it may part the array, and a member in sync is not among them, it is asked
+/// first, and no device is changed before the answer.
+pub(crate) fn change_devices<
+    D: SharedRead + Drop + Send + Sync,
+    T: Threads + Wait + Sync,
+    R: Source + Drop,
+    S: Sink + Drop,
+    W: ReadWatch + ClientWatch + Sync,
+    A: Asker + Drop,
+>(
+    session: &mut Session<'_, T, R, S, W, A>,
+    command: ArrayCommand<'_>,
+    devices: Vec<D>,
+    notices: &mut Notices,
+    names: &[&str],
+) -> (Vec<D>, Result<(), CommandFault>)
+    requires brings { is_some (device_to_add (array_ask command)) ≡ true → 0 < length devices.items }
+    ensures as_many { length result.0.items ≡ length devices.items }
+    ensures gives { ChangesDevices
+        (ChecksNamed A.Asker (array_ask command.entry) None)
+        (OpensDevices R.Source S.Sink
+        (question A.Asker (array_ask command.entry) (texts names.now)) (texts names.now)
+        session.old.lacking.now (array_ask command.entry))
+        (disks D.Device devices.items) (disks D.Device result.0.items)
+        (told_of session.old notices.old) (told_of session.new notices.new) result.1 }
+    ensures flushed { IfOk result.1 (λ _. S.is_flushed session.new.out) }
+{
+    match check_named(
+        session.alloc,
+        &mut session.asker,
+        Command::Array(command),
+        None,
+        &devices,
+        notices,
+    ) {
+        Ok(()) => open_devices(session, command, devices, notices, names),
+        Err(fault) => (devices, Err(fault)),
+    }
+}
+
 /// Opens devices as an array, but for the last where it is to join it, and does a command with it. What images lack by their
 /// maps counts as listed; of a recovering member that is rebuilt it is refused. Where the command would overwrite what perhaps
 /// should stay, by what was noticed, it is asked first. The devices come back in their order. The names are those of their
@@ -89,7 +131,7 @@ pub(crate) fn open_devices<
     T: Threads + Wait + Sync,
     R: Source + Drop,
     S: Sink + Drop,
-    W: ReadWatch + Sync,
+    W: ReadWatch + ClientWatch + Sync,
     A: Asker + Drop,
 >(
     session: &mut Session<'_, T, R, S, W, A>,
@@ -110,7 +152,12 @@ pub(crate) fn open_devices<
     let Ok(list) = room_for(session.alloc, command, devices.len()) else {
         return (devices, Err(CommandFault::NoMemory));
     };
-    let beside = take_beside(session.alloc, command, &mut devices, notices);
+    let beside = take_beside(
+        session.alloc,
+        Command::Array(command),
+        &mut devices,
+        notices,
+    );
     let mirror = match open_lacking(session.alloc, command, session.lacking, devices) {
         Ok(mirror) => mirror,
         Err((members, fault)) => {
@@ -134,32 +181,6 @@ pub(crate) fn open_devices<
             (let_go(command, list, opened, notices), done)
         }
         Err(fault) => (let_go(command, list, opened, notices), Err(fault)),
-    }
-}
-
-// Takes the device out of the list that is to join the array, where the command brings one: the last. What it holds is noted.
-fn take_beside<D: Device + Drop>(
-    alloc: Global,
-    command: ArrayCommand<'_>,
-    devices: &mut Vec<D>,
-    notices: &mut Notices,
-) -> Option<D>
-    requires brings { is_some (device_to_add (array_ask command)) ≡ true → 0 < length devices.old.items }
-    ensures as_many { length devices.new.items + count result ≡ length devices.old.items }
-    ensures brings { is_some result ≡ is_some (device_to_add (array_ask command.entry)) }
-    ensures takes { TakesLast (array_ask command.entry)
-        (disks D.Device devices.old.items) (disks D.Device devices.new.items)
-        (option_map (disk_of D.Device) result) notices.old notices.new }
-{
-    match command.device() {
-        None => None,
-        Some(_) => {
-            let Some(mut device) = devices.pop() else {
-                unreachable!()
-            };
-            notices.note_held(alloc, &mut device);
-            Some(device)
-        }
     }
 }
 

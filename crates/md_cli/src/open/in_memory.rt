@@ -6,10 +6,10 @@ ghost use Rattle.md_cli.specs.Arrays.{disks};
 ghost use Rattle.md_cli.specs.InMemory.{GetsBitmapInMemory, GetsNoBitmap, GetsStandIn, MakesNoArray, PutsStandIn, RefusesCounted, RefusesStandIn, given_or_had, refusal_of};
 
 use md_array::{Mirror, OpenFault};
-use md_commands::{CommandFault, DataOfFault, OptionFault};
 use md_device::Device;
 use md_metadata::{GrowFault, grow};
 use md_read_commands::{FrontedDevice, StandIn, front_each, put_stand_in};
+use md_refusals::{CommandFault, DataOfFault, OptionFault};
 use std::alloc::Global;
 
 /// Gives the members on devices a bitmap with chunks of so many bytes, where one is asked for. Where each has one already,

@@ -1,11 +1,14 @@
 // An opened array, and a device beside it.
-ghost use Rattle.std.specs.Prelude.{◌≡◌, ◌<◌, ◌≤◌, [], IfErr, IfOk, is_some, length, true, vec_capacity};
-ghost use Rattle.md_words.specs.Asks.{array_ask, device_to_add, leaving_of};
-ghost use Rattle.md_cli.specs.Opened.{moves_device, beside_place, with_beside};
+ghost use Rattle.std.specs.Prelude.{◌≡◌, ◌+◌, ◌<◌, ◌≤◌, [], IfErr, IfOk, is_some, length, option_map, true, vec_capacity};
+ghost use Rattle.md_state.specs.View.{disk_of};
+ghost use Rattle.md_words.specs.Asks.{array_ask, ask_of, device_to_add, leaving_of};
+ghost use Rattle.md_cli.specs.Arrays.{TakesLast, disks};
+ghost use Rattle.md_cli.specs.Opened.{moves_device, beside_place, count, with_beside};
 
 use md_array::Mirror;
 use md_device::Device;
-use md_words::ArrayCommand;
+use md_messages::Notices;
+use md_words::{ArrayCommand, Command};
 use std::alloc::{AllocError, Global};
 
 /// An array as a mirror, and a device that is none of its members': before a command one that is to join, and after it
@@ -40,6 +43,32 @@ fn place_of(command: ArrayCommand<'_>, last: usize) -> usize
     match command.leaving() {
         Some(member) => member as usize,
         None => last,
+    }
+}
+
+/// Takes the device out of the list that is to join the array, where the command brings one: the last. What it holds is noted.
+pub(crate) fn take_beside<D: Device + Drop>(
+    alloc: Global,
+    command: Command<'_>,
+    devices: &mut Vec<D>,
+    notices: &mut Notices,
+) -> Option<D>
+    requires brings { is_some (device_to_add (ask_of command)) ≡ true → 0 < length devices.old.items }
+    ensures as_many { length devices.new.items + count result ≡ length devices.old.items }
+    ensures brings { is_some result ≡ is_some (device_to_add (ask_of command.entry)) }
+    ensures takes { TakesLast (ask_of command.entry)
+        (disks D.Device devices.old.items) (disks D.Device devices.new.items)
+        (option_map (disk_of D.Device) result) notices.old notices.new }
+{
+    match command.device() {
+        None => None,
+        Some(_) => {
+            let Some(mut device) = devices.pop() else {
+                unreachable!()
+            };
+            notices.note_held(alloc, &mut device);
+            Some(device)
+        }
     }
 }
 

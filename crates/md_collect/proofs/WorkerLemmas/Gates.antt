@@ -1,7 +1,7 @@
 -- What a gate is told of, over several calls.
 use Rattle.std.proofs.Common.{◌≡◌, ◌+◌, ◌++◌, ◌∷◌, ◌∙◌, [], ap, arith, inl, inr, length, length-append, slice_index, subst}
 use Rattle.std.proofs.lemmas.Bool.{cases_lt}
-use Rattle.md_collect.specs.declared.workers.gate.Gate.{Ghosts}
+use Rattle.md_streams.specs.declared.gate.Gate.{Ghosts}
 use Rattle.md_collect.specs.Reports.{ReportView}
 use Rattle.md_collect.specs.declared.workers.queue.Queue.{Queue}
 use Rattle.md_collect.specs.Workers.Gates.{IsTold, IsToldOfReads}

@@ -1,6 +1,6 @@
 -- What a gate is told of reads.
 use Rattle.std.specs.Prelude.{ℕ, ◌<◌, ◌≤◌, slice_index}
-use Rattle.md_collect.specs.declared.workers.gate.Gate.{Ghosts}
+use Rattle.md_streams.specs.declared.gate.Gate.{Ghosts}
 use Rattle.md_collect.specs.declared.workers.queue.Queue.{Queue}
 use Rattle.md_collect.specs.Workers.Queues.{slots_read}
 

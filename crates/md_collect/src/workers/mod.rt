@@ -12,14 +12,12 @@
 
 mod batch;
 mod board;
-mod gate;
 mod queue;
 mod reports;
 mod turning;
 
 pub use batch::batch_of;
 pub use board::{Board, Share};
-pub use gate::Gate;
 pub use queue::Queue;
 pub use reports::Reports;
 pub use turning::turn;

@@ -6,10 +6,10 @@ ghost use Rattle.md_collect.specs.Workers.Tally.{noted};
 ghost use Rattle.md_collect.specs.Workers.Waiting.{HasMemoryFor};
 
 use crate::workers::board::{Board, Share};
-use crate::workers::gate::Gate;
 use crate::workers::reports::Reports;
 use md_bitmap::Chunks;
 use md_device::Device;
+use md_streams::Gate;
 use std::sync::ledger::Ledger;
 use std::sync::{Mutex, Wait};
 

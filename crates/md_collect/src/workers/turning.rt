@@ -5,10 +5,10 @@ ghost use Rattle.md_collect.specs.Workers.Gates.{IsToldOfReads};
 ghost use Rattle.md_collect.specs.Workers.Queues.{IsReadyForTurn, HasWorked};
 
 use crate::workers::board::Board;
-use crate::workers::gate::Gate;
 use crate::workers::queue::{Queue, work};
 use md_bitmap::Chunks;
 use md_device::Device;
+use md_streams::Gate;
 use std::sync::ledger::Ledger;
 use std::sync::{Mutex, Wait};
 use std::thread;

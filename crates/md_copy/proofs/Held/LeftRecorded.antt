@@ -7,15 +7,11 @@ use Rattle.md_faults.specs.declared.enrol_fault.TargetFault.TheVariants.{Halted,
 use Rattle.md_state.specs.View.{MirrorView}
 use Rattle.md_array.specs.Steps.Checkpoint.{MayCheckpoint, RefusesCheckpoint}
 use Rattle.md_array.specs.Consistency.{IsConsistent}
-use Rattle.md_copy.specs.Passes.Held.{AreHeld}
 use Rattle.md_copy.specs.Ending.Leaving.{RecordsAtEnd}
 use Rattle.md_copy.specs.Readying.Ready.{IsRecordable}
 use Rattle.md_copy.proofs.Held.HeldChunks.{may_record}
 
 module _ (target : ℕ) (v : MirrorView) (sound : IsConsistent v) (within : target < length v.array.members) (copied : Bitmap) where
-  pub may_held : IsRecordable target v × AreHeld v target copied → v.array.halted ≡ false → MayCheckpoint target copied v
-  may_held h running = may_record target v sound running h.0 within copied h.1.chunks h.1.held
-
   -- where no chunk counts as copied
   pub may_none : (before : Bitmap) → copied.chunks ≡ before.chunks → ((c : ℕ) → c < before.chunks → is_set copied.bytes c ≡ false)
       → (before.chunks ≡ v.array.marks.chunks) × IsConsistent v × (v.array.halted ≡ false → IsRecordable target v) → v.array.halted ≡ false → MayCheckpoint target copied v

@@ -20,7 +20,7 @@ use Rattle.md_kept_members.specs.View.{MemberView}
 use Rattle.md_pass.specs.Copied.{AreUncopied, failed_slots, is_failed_slot}
 use Rattle.md_copy.specs.PassLaws.Listed.{IsArrayPass, MayServe}
 use Rattle.md_copy.specs.PassLaws.Passes.{PassView}
-use Rattle.md_plan.specs.declared.planner.Planned.{Planned}
+use Rattle.md_cert.specs.declared.planned.Planned.{Planned}
 use Rattle.md_state.specs.Members.{IsMember}
 use Rattle.md_state.specs.View.{ArrayView, MirrorView}
 use Rattle.md_array.specs.Consistency.{IsConsistent}

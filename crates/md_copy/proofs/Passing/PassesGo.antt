@@ -24,7 +24,7 @@ use Rattle.md_copy.proofs.PassLemmas.Listing.{lists_add}
 use Rattle.md_copy.proofs.PassLemmas.OnePass.{slot_permitted}
 use Rattle.md_copy.specs.PassLaws.Listed.{ListsFailed, MayServe, ServesAs, most_failures}
 use Rattle.md_copy.specs.PassLaws.Passes.{PassView, ServesAtMost, failed_chunks, slots_of_pass}
-use Rattle.md_plan.specs.declared.planner.Planned.{Planned}
+use Rattle.md_cert.specs.declared.planned.Planned.{Planned}
 use Rattle.md_state.specs.Members.{IsMember}
 use Rattle.md_state.specs.View.{ArrayView, MirrorView}
 use Rattle.md_array.specs.Consistency.{IsConsistent}

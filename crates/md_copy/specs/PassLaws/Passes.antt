@@ -8,7 +8,7 @@ use Rattle.md_cert.specs.declared.slots.Slot.{Slot}
 use Rattle.md_cert.specs.Assignments.{Least}
 use Rattle.md_cert.specs.Plans.{IsCertified, SlotsRise}
 use Rattle.md_cert.specs.Tables.{chunks_of_rows, orphans_of}
-use Rattle.md_plan.specs.declared.planner.Planned.{Planned}
+use Rattle.md_cert.specs.declared.planned.Planned.{Planned}
 
 -- a pass: its plan, and the slots that failed
 pub record PassView : Type 0 where

@@ -5,7 +5,7 @@ use Rattle.md_cert.specs.Tables.{chunks_of_rows}
 use Rattle.md_cert.specs.declared.slots.Slot.{Slot}
 use Rattle.md_cert.specs.declared.table.Row.{Row}
 use Rattle.md_kept_members.specs.View.{MemberView}
-use Rattle.md_plan.specs.declared.planner.Planned.{Planned}
+use Rattle.md_cert.specs.declared.planned.Planned.{Planned}
 use Rattle.md_state.specs.Members.{IsMember}
 use Rattle.md_state.specs.View.{MirrorView}
 use Rattle.md_array.specs.Consistency.{IsConsistent}

@@ -5,7 +5,7 @@ use Rattle.md_badblocks.specs.declared.run.Run.{Run}
 use Rattle.md_bitmap.specs.Marks.{Bitmap, is_set}
 use Rattle.md_kept_members.specs.Enrolling.{log_room}
 use Rattle.md_kept_members.specs.View.{MemberView}
-use Rattle.md_plan.specs.declared.planner.Planned.{Planned}
+use Rattle.md_cert.specs.declared.planned.Planned.{Planned}
 use Rattle.md_state.specs.Members.{IsMember}
 use Rattle.md_state.specs.Missing.{AreMissing, is_missing}
 use Rattle.md_state.specs.View.{ArrayView, MirrorView}

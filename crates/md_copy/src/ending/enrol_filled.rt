@@ -15,8 +15,8 @@ use crate::ending::orphans::Orphans;
 use crate::rebuilt::Rebuilt;
 use md_array::{EnrolFault, Mirror};
 use md_bitmap::Marks;
+use md_cert::Planned;
 use md_device::Device;
-use md_plan::Planned;
 use std::alloc::Global;
 
 /// The target comes into sync with the chunks that were copied, and lists the others that it lacks. What is told

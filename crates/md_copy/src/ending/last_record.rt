@@ -3,7 +3,8 @@ ghost use Rattle.std.specs.Prelude.{◌≡◌, ◌<◌, ℕ, false, length};
 ghost use Rattle.md_array.specs.Steps.Checkpoint.{MayCheckpoint};
 ghost use Rattle.md_array.specs.Consistency.{IsConsistent};
 ghost use Rattle.md_bitmap.specs.Marks.{is_set};
-ghost use Rattle.md_copy.specs.Ending.Leaving.{RecordsAtEnd, LeavesSo, MayRecordAtEnd};
+ghost use Rattle.md_copy.specs.Ending.Leaving.{RecordsAtEnd, LeavesSo};
+ghost use Rattle.md_copy.specs.Salvaging.Leaving.{MayLeaveSalvaged};
 
 use crate::beginning::RebuildFault;
 use md_array::Mirror;
@@ -11,8 +12,8 @@ use md_bitmap::Marks;
 use md_device::Device;
 
 /// Records how far the target, which is recovering, is rebuilt, before the fault is answered: there was no memory,
-/// or no room in a log, or a list could not be stored on a member. That this may fail, too, is not told. Takes no
-/// memory.
+/// or no room in a log, or a list could not be stored on a member. A copied chunk may have come from several members.
+/// If this record fails too, nobody is told. Takes no memory.
 pub(crate) fn leave<D: Device + Drop>(
     mirror: &mut Mirror<D>,
     target: usize,
@@ -21,14 +22,14 @@ pub(crate) fn leave<D: Device + Drop>(
 )
     requires within { target < length mirror.old.array.members }
     requires sound { IsConsistent mirror.old }
-    requires may { MayRecordAtEnd target copied.old mirror.old fault }
+    requires may { MayLeaveSalvaged target copied.old mirror.old fault }
     ensures leaves { LeavesSo target copied.old mirror.old mirror.new fault }
     ensures sound { IsConsistent mirror.new }
 {
     match fault {
         RebuildFault::NoMemory | RebuildFault::LogFull(_) => record(mirror, target, copied),
         RebuildFault::MetadataFault(_) => {
-            // Some chunks may have been copied from the member that failed.
+            // Some sectors may have been copied from the member that failed.
             forget(copied);
             record(mirror, target, copied);
         }
@@ -41,8 +42,8 @@ pub(crate) fn leave<D: Device + Drop>(
     }
 }
 
-/// No chunk counts as copied any more.
-pub(crate) fn forget(copied: &mut Marks)
+// No chunk counts as copied any more.
+fn forget(copied: &mut Marks)
     ensures chunks { copied.new.chunks ≡ copied.old.chunks }
     ensures none { (c : ℕ) → c < copied.old.chunks → is_set copied.new.bytes c ≡ false }
 {
@@ -51,8 +52,8 @@ pub(crate) fn forget(copied: &mut Marks)
     }
 }
 
-/// It is recorded where the mirror runs.
-pub(crate) fn record<D: Device + Drop>(mirror: &mut Mirror<D>, target: usize, copied: &Marks)
+// Records it, if the mirror runs.
+fn record<D: Device + Drop>(mirror: &mut Mirror<D>, target: usize, copied: &Marks)
     requires within { target < length mirror.old.array.members }
     requires sound { IsConsistent mirror.old }
     requires may { mirror.old.array.halted ≡ false → MayCheckpoint target copied.now mirror.old }

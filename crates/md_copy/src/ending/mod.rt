@@ -15,6 +15,6 @@ mod orphans;
 mod until_done;
 
 pub(crate) use enrol_filled::enrol_copied;
-pub(crate) use last_record::{forget, leave, record};
+pub(crate) use last_record::leave;
 pub(crate) use orphans::{Orphans, no_orphans};
 pub(crate) use until_done::store_until_done;

@@ -20,10 +20,11 @@ use crate::passes::next_table::table_of_failed;
 use crate::passes::stretches::{copy_stretches, stretch_rounds};
 use md_array::Mirror;
 use md_bitmap::Marks;
-use md_cert::{Plan, Slot, Table};
+use md_cert::{Plan, Planned, Slot, Table};
 use md_device::Device;
-use md_pass::Gate;
-use md_plan::{Planned, plan};
+use md_pass::Workers;
+use md_plan::plan;
+use md_streams::Gate;
 use std::alloc::Global;
 use std::sync::Wait;
 use std::thread::Threads;
@@ -99,7 +100,12 @@ pub(crate) fn make_pass<D: Device + Drop + Send, G: Gate + Sync, R: Threads + Wa
 {
     let planned = plan(alloc, rows)?;
     let step = stretch_rounds(mirror.chunks(), planned.plan.rounds);
-    copy_stretches(rt, alloc, mirror, target, gate, &planned.plan, step, copied)?;
+    let workers = Workers {
+        rt: &*rt,
+        alloc,
+        gate: &*gate,
+    };
+    copy_stretches(&workers, mirror, target, &planned.plan, step, copied)?;
     let failed = failed_count(planned.plan.slots.as_slice(), copied);
     Ok(Passed { planned, failed })
 }

@@ -17,19 +17,17 @@ use md_array::Mirror;
 use md_bitmap::Marks;
 use md_cert::Plan;
 use md_device::Device;
-use md_pass::{BoardCounts, Gate, PassFault, Source};
-use std::alloc::Global;
+use md_pass::{BoardCounts, Pass, PassFault, Source, Workers};
+use md_streams::Gate;
 use std::sync::Wait;
 use std::thread::Threads;
 
 /// Copies what is planned to the target, as far as its sources give it.
 /// Whatever becomes of it, the devices are back in their places. Where memory is refused, nothing was read.
 pub(crate) fn fill<D: Device + Drop + Send, G: Gate + Sync, R: Threads + Wait + Sync>(
-    rt: &R,
-    alloc: Global,
+    workers: &Workers<'_, G, R>,
     mirror: &mut Mirror<D>,
     target: usize,
-    gate: &G,
     plan: &Plan,
     sources: &[Source],
     copied: &mut Marks,
@@ -46,10 +44,10 @@ pub(crate) fn fill<D: Device + Drop + Send, G: Gate + Sync, R: Threads + Wait + 
     ensures gives { (m : MemberView) → IsMember mirror.old.array target m → MatchResult result
         (FillsPass target m plan.now.slots copied.old copied.new mirror.old mirror.new)
         (BreaksPass target m plan.now.slots copied.old copied.new mirror.old mirror.new) }
-    ensures told { OnOk result (IsToldOfSlots G.Gate gate.now plan.now.slots) }
+    ensures told { OnOk result (IsToldOfSlots G.Gate workers.now.gate.now plan.now.slots) }
     ensures sound { IsConsistent mirror.new }
 {
-    let result = fill_devices(rt, alloc, mirror, target, gate, plan, sources, copied);
+    let result = fill_devices(workers, mirror, target, plan, sources, copied);
     match result {
         Ok(counts) => Ok(counts.failed),
         Err(PassFault::NoMemory) => Err(RebuildFault::NoMemory),
@@ -59,11 +57,9 @@ pub(crate) fn fill<D: Device + Drop + Send, G: Gate + Sync, R: Threads + Wait + 
 
 // The devices are lent, and the pass is made over them.
 fn fill_devices<D: Device + Drop + Send, G: Gate + Sync, R: Threads + Wait + Sync>(
-    rt: &R,
-    alloc: Global,
+    workers: &Workers<'_, G, R>,
     mirror: &mut Mirror<D>,
     target: usize,
-    gate: &G,
     plan: &Plan,
     sources: &[Source],
     copied: &mut Marks,
@@ -81,13 +77,15 @@ fn fill_devices<D: Device + Drop + Send, G: Gate + Sync, R: Threads + Wait + Syn
         (λ counts. FillsPass target m plan.now.slots copied.old copied.new mirror.old mirror.new counts.failed)
         (OnFault ((copied.new ≡ copied.old) × (mirror.new ≡ mirror.old))
         (FailsOnWrite target m plan.now.slots mirror.old mirror.new)) }
-    ensures told { OnOk result (IsToldOfSlots G.Gate gate.now plan.now.slots) }
+    ensures told { OnOk result (IsToldOfSlots G.Gate workers.now.gate.now plan.now.slots) }
     ensures sound { IsConsistent mirror.new }
 {
-    let chunks = mirror.chunks();
-    let offset = mirror.own(target).data_offset;
+    let pass = Pass {
+        plan: &*plan,
+        chunks: mirror.chunks(),
+        sources: &*sources,
+        offset: mirror.own(target).data_offset,
+    };
     let devices = mirror.lend();
-    copy_beside(
-        rt, alloc, gate, plan, chunks, sources, devices, target, offset, copied,
-    )
+    copy_beside(workers, &pass, devices, target, copied)
 }

@@ -9,62 +9,46 @@ ghost use Rattle.md_collect.specs.Workers.Queues.{AreOnlyRead};
 ghost use Rattle.md_pass.specs.Sources.{MayRead, copy_of};
 ghost use Rattle.md_copy.specs.Told.{IsToldOfSlots};
 
-use md_bitmap::{Chunks, Marks};
-use md_cert::Plan;
+use md_bitmap::Marks;
 use md_device::Device;
-use md_pass::{BoardCounts, Gate, PassFault, Source, copy_pass};
-use std::alloc::Global;
+use md_pass::{BoardCounts, Pass, PassFault, Workers, copy_pass};
+use md_streams::Gate;
 use std::sync::Wait;
 use std::thread::Threads;
 
 /// One pass over the devices. The target's is out of the list meanwhile, and comes back to its place
 /// whatever the answer is.
 pub(crate) fn copy_beside<D: Device + Drop + Send, G: Gate + Sync, R: Threads + Wait + Sync>(
-    rt: &R,
-    alloc: Global,
-    gate: &G,
-    plan: &Plan,
-    chunks: Chunks,
-    sources: &[Source],
+    workers: &Workers<'_, G, R>,
+    pass: &Pass<'_>,
     devices: &mut Vec<D>,
     target: usize,
-    offset: u64,
     copied: &mut Marks,
 ) -> Result<BoardCounts, PassFault>
     requires within { target < length devices.old.items }
-    requires planned { ArePlanned chunks plan.now.slots }
-    requires uncopied { AreUncopied plan.now.slots copied.old }
-    requires sources { MayRead D.Device chunks plan.now.slots sources.now (remove devices.old.items target) }
-    requires room { (d : D) → HasRoom (D.content (slice_index_or devices.old.items target d)) offset chunks }
-    requires marks { copied.old.chunks ≡ div_ceil chunks.size chunks.sectors }
+    requires planned { ArePlanned pass.now.chunks pass.now.plan.now.slots }
+    requires uncopied { AreUncopied pass.now.plan.now.slots copied.old }
+    requires sources { MayRead D.Device pass.now.chunks pass.now.plan.now.slots pass.now.sources.now
+        (remove devices.old.items target) }
+    requires room { (d : D) → HasRoom (D.content (slice_index_or devices.old.items target d)) pass.now.offset pass.now.chunks }
+    requires marks { copied.old.chunks ≡ div_ceil pass.now.chunks.size pass.now.chunks.sectors }
 
     ensures gives { (d : D) → MatchResult result
-        (EndsPass D.Device (copy_of plan.now.slots chunks offset) sources.now
+        (EndsPass D.Device (copy_of pass.now.plan.now.slots pass.now.chunks pass.now.offset) pass.now.sources.now
         (pass_state (remove devices.old.items target) (slice_index_or devices.old.items target d) copied.old)
         (pass_state (remove devices.new.items target) (slice_index_or devices.new.items target d) copied.new))
         (BreaksOff D.Device
         (pass_state (remove devices.old.items target) (slice_index_or devices.old.items target d) copied.old)
         (pass_state (remove devices.new.items target) (slice_index_or devices.new.items target d) copied.new)) }
 
-    ensures told { OnOk result (IsToldOfSlots G.Gate gate.now plan.now.slots) }
+    ensures told { OnOk result (IsToldOfSlots G.Gate workers.now.gate.now pass.now.plan.now.slots) }
     ensures as_many { length devices.new.items ≡ length devices.old.items }
     ensures others { AreOnlyRead D.Device (remove devices.old.items target) (remove devices.new.items target) }
-    ensures target { (d : D) → KeepsBeside D.Device (copy_of plan.now.slots chunks offset)
+    ensures target { (d : D) → KeepsBeside D.Device (copy_of pass.now.plan.now.slots pass.now.chunks pass.now.offset)
         (slice_index_or devices.old.items target d) (slice_index_or devices.new.items target d) }
 {
     let mut device = devices.remove(target);
-    let result = copy_pass(
-        rt,
-        alloc,
-        gate,
-        plan,
-        chunks,
-        sources,
-        devices,
-        &mut device,
-        offset,
-        copied,
-    );
+    let result = copy_pass(workers, pass, devices, &mut device, copied);
     if devices.insert(target, device).is_err() {
         unreachable!();
     }

@@ -13,7 +13,8 @@ use md_array::{Mirror, TargetFault};
 use md_bitmap::{Chunks, Marks};
 use md_cert::{Plan, Slot, Slots};
 use md_device::Device;
-use md_pass::Gate;
+use md_pass::Workers;
+use md_streams::Gate;
 use std::alloc::{AllocError, Global};
 use std::sync::Wait;
 use std::thread::Threads;
@@ -31,11 +32,9 @@ pub(crate) fn stretch_rounds(chunks: Chunks, rounds: u32) -> u32
 
 /// Copies the slots of a plan in stretches of so many rounds, and records after each how far the target is rebuilt.
 pub(crate) fn copy_stretches<D: Device + Drop + Send, G: Gate + Sync, R: Threads + Wait + Sync>(
-    rt: &R,
-    alloc: Global,
+    workers: &Workers<'_, G, R>,
     mirror: &mut Mirror<D>,
     target: usize,
-    gate: &G,
     plan: &Plan,
     step: u32,
     copied: &mut Marks,
@@ -49,13 +48,13 @@ pub(crate) fn copy_stretches<D: Device + Drop + Send, G: Gate + Sync, R: Threads
     ensures gives { MatchResult result
         (λ _. RecordsStretches target plan.now.slots copied.old copied.new mirror.old mirror.new)
         (FailsWithin target plan.now.slots copied.old copied.new mirror.old mirror.new) }
-    ensures told { OnOk result (IsToldOfSlots G.Gate gate.now plan.now.slots) }
+    ensures told { OnOk result (IsToldOfSlots G.Gate workers.now.gate.now plan.now.slots) }
     ensures sound { IsConsistent mirror.new }
 {
     let mut from = 0;
     loop {
         let to = plan.rounds.min(step.saturating_add(from));
-        copy_stretch(rt, alloc, mirror, target, gate, plan, from, to, copied)?;
+        copy_stretch(workers, mirror, target, plan, from, to, copied)?;
         if to >= plan.rounds {
             return Ok(());
         }
@@ -66,11 +65,9 @@ pub(crate) fn copy_stretches<D: Device + Drop + Send, G: Gate + Sync, R: Threads
 // Copies the slots of the rounds from one on and before another, and records how far the target is rebuilt then. All
 // slots before them were copied, or failed.
 fn copy_stretch<D: Device + Drop + Send, G: Gate + Sync, R: Threads + Wait + Sync>(
-    rt: &R,
-    alloc: Global,
+    workers: &Workers<'_, G, R>,
     mirror: &mut Mirror<D>,
     target: usize,
-    gate: &G,
     plan: &Plan,
     from: u32,
     to: u32,
@@ -86,17 +83,15 @@ fn copy_stretch<D: Device + Drop + Send, G: Gate + Sync, R: Threads + Wait + Syn
     ensures ready { OnOk result (IsReadyToCopy target mirror.new) }
     ensures held { OnOk result (AreHeld mirror.new target copied.new) }
     ensures left { OnOk result (AreLeft target (slots_after to (slots_after from plan.now.slots)) copied.new mirror.new) }
-    ensures told { OnOk result (IsToldOfSlots G.Gate gate.now (slots_before to (slots_after from plan.now.slots))) }
+    ensures told { OnOk result (IsToldOfSlots G.Gate workers.now.gate.now (slots_before to (slots_after from plan.now.slots))) }
     ensures sound { IsConsistent mirror.new }
 {
-    let stretch = stretch_of(alloc, plan, from, to)?;
-    let sources = sources_of(alloc, mirror, target, &stretch)?;
+    let stretch = stretch_of(workers.alloc, plan, from, to)?;
+    let sources = sources_of(workers.alloc, mirror, target, &stretch)?;
     fill(
-        rt,
-        alloc,
+        workers,
         mirror,
         target,
-        gate,
         &stretch,
         sources.as_slice(),
         copied,

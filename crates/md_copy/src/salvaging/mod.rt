@@ -11,7 +11,6 @@
 //! let salvaged = salvage(rt, alloc, &mut mirror, 1, &gate)?;
 //! ```
 
-mod last_record;
 mod laws;
 mod losing;
 mod room;

@@ -1,6 +1,6 @@
 // What a salvage tells.
 use md_badblocks::BadSet;
-use md_plan::Planned;
+use md_cert::Planned;
 
 /// What a salvage did.
 #[derive(Debug, Drop)]

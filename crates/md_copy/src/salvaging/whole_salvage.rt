@@ -16,10 +16,9 @@ ghost use Rattle.md_copy.specs.Table.Orphans.{IsSetOf};
 ghost use Rattle.md_state.specs.Members.{IsMember};
 
 use crate::beginning::{RebuildFault, check_rebuild, keep_missing, table};
-use crate::ending::store_until_done;
+use crate::ending::{leave, store_until_done};
 use crate::passes::make_pass;
 use crate::readying::{lower_target, make_ready};
-use crate::salvaging::last_record::leave_salvaged;
 use crate::salvaging::laws::salvaged_by_call;
 use crate::salvaging::losing::enrol_without;
 use crate::salvaging::room::{sectors_to_list, unmark_listed};
@@ -28,10 +27,10 @@ use crate::salvaging::sectors::salvage_left;
 use md_array::Mirror;
 use md_badblocks::BadSet;
 use md_bitmap::Marks;
+use md_cert::Planned;
 use md_device::Device;
 use md_kept_members::log_room;
-use md_pass::Gate;
-use md_plan::Planned;
+use md_streams::Gate;
 use std::alloc::Global;
 use std::sync::Wait;
 use std::thread::Threads;
@@ -91,7 +90,7 @@ fn salvage_by_steps<D: Device + Drop + Send, G: Gate + Sync, R: Threads + Wait +
     match salvage_readied(rt, alloc, mirror, target, gate, &mut copied) {
         Ok(told) => Ok(told),
         Err(fault) => {
-            leave_salvaged(mirror, target, &mut copied, fault);
+            leave(mirror, target, &mut copied, fault);
             Err(fault)
         }
     }

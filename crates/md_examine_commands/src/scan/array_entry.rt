@@ -1,12 +1,13 @@
 // The entry of an array, as mdadm.conf has it.
 ghost use Rattle.std.specs.Prelude.{◌≡◌, count_by};
 ghost use Rattle.std.specs.List.{flat_map};
-ghost use Rattle.md_examine.specs.Sink.{PutsOrFails};
+ghost use Rattle.md_streams.specs.Sink.{PutsOrFails};
 ghost use Rattle.md_examine_commands.specs.ScanText.{array_line, colon_place, spare_count_text, devices_line, has_no_place, is_counted_spare, later_device, local_name, name_words, named_array_line, node_byte, node_text, path_text, spares_text};
 
 use crate::scan::conf_words::{put_device, put_id, put_word};
 use crate::scan::seen::{Seen, is_same_array};
-use md_examine::{Sink, SinkFault, name_len, number_after, shown_bytes};
+use md_examine::{name_len, shown_bytes};
+use md_streams::{Sink, SinkFault, number_after};
 use md_super::Superblock;
 
 /// The line of an array, by the superblock that decides.
@@ -53,7 +54,7 @@ fn colon_place(name: &[u8]) -> Option<usize>
     name.iter().position(|byte| *byte == b':')
 }
 
-#[tactic(auto, using(md_examine::proofs::Puts::puts_then))]
+#[tactic(auto, using(md_streams::proofs::Puts::puts_then))]
 fn put_path<S: Sink>(out: &mut S, local: &[u8]) -> Result<(), SinkFault>
     ensures { PutsOrFails S.contents S.failed out.old out.new (path_text local.now) result }
 {
@@ -92,7 +93,7 @@ fn node_byte(byte: u8) -> u8
     }
 }
 
-#[tactic(auto, using(md_examine::proofs::Puts::puts_then))]
+#[tactic(auto, using(md_streams::proofs::Puts::puts_then))]
 fn put_name_words<S: Sink>(out: &mut S, name: &[u8]) -> Result<(), SinkFault>
     ensures { PutsOrFails S.contents S.failed out.old out.new (name_words name.now) result }
 {
@@ -176,7 +177,7 @@ fn put_later_devices<S: Sink>(
     Ok(())
 }
 
-#[tactic(auto, using(md_examine::proofs::Puts::puts_then))]
+#[tactic(auto, using(md_streams::proofs::Puts::puts_then))]
 fn put_later_device<S: Sink>(out: &mut S, v: &Superblock, seen: &Seen<'_>) -> Result<(), SinkFault>
     ensures { PutsOrFails S.contents S.failed out.old out.new (later_device v.now seen.now) result }
 {

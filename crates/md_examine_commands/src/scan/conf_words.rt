@@ -1,11 +1,10 @@
 // Words of mdadm.conf.
-ghost use Rattle.std.specs.Prelude.{◌≡◌, ◌<◌, ◌≤◌, ◌++◌, codes};
-ghost use Rattle.std.specs.Char.{digit_char};
+ghost use Rattle.std.specs.Prelude.{◌≡◌, ◌≤◌, ◌++◌, codes};
 ghost use Rattle.std.specs.List.{flat_map, list_any};
-ghost use Rattle.md_examine.specs.Sink.{PutsOrFails};
+ghost use Rattle.md_streams.specs.Sink.{PutsOrFails};
 ghost use Rattle.md_examine_commands.specs.ScanText.{device_word, hex_byte, hex_bytes, id_text, needs_quotes, quarter_text, quoted_byte, word_text};
 
-use md_examine::{Sink, SinkFault, hides, put_name};
+use md_streams::{Sink, SinkFault, hex_digit, hides, put_name};
 use uuid::Uuid;
 
 /// A word, in quotes where it has a space or a quote.
@@ -31,7 +30,7 @@ fn needs_quotes(byte: u8) -> bool
     byte == b' ' || byte == b'"' || byte == b'\''
 }
 
-#[tactic(auto, using(md_examine::proofs::Puts::puts_then))]
+#[tactic(auto, using(md_streams::proofs::Puts::puts_then))]
 fn put_in_quotes<S: Sink>(out: &mut S, word: &[u8]) -> Result<(), SinkFault>
     ensures { PutsOrFails S.contents S.failed out.old out.new
         (codes "\"" ++ flat_map quoted_byte word.now ++ codes "\"") result }
@@ -112,15 +111,4 @@ fn put_hex_byte<S: Sink>(out: &mut S, byte: u8) -> Result<(), SinkFault>
     ensures { PutsOrFails S.contents S.failed out.old out.new (hex_byte byte) result }
 {
     out.put(&[hex_digit(byte / 16), hex_digit(byte % 16)])
-}
-
-fn hex_digit(digit: u8) -> u8
-    requires { digit < 16 }
-    ensures { result ≡ digit_char digit }
-{
-    if digit < 10 {
-        b'0' + digit
-    } else {
-        b'a' - 10 + digit
-    }
 }

@@ -1,12 +1,12 @@
 // What the superblocks of an array tell of its members, in comments.
 ghost use Rattle.std.specs.Prelude.{◌≡◌, ◌<◌, ◌++◌, codes, decimal, length, position};
 ghost use Rattle.std.specs.List.{flat_map, list_any, range_with_len};
-ghost use Rattle.md_examine.specs.Sink.{PutsOrFails};
+ghost use Rattle.md_streams.specs.Sink.{PutsOrFails};
 ghost use Rattle.md_examine_commands.specs.ScanText.{behind_comment, comments, copies_comment, fills_role, is_in_role, is_other, is_twin, member_comment, member_comment_in, missing_comment, other_comment, place_comment, renumbered_comment, role_comments, role_member_comment, slot_comment, standing_comment, twin_at, twin_comment, twins};
 
 use crate::scan::seen::{Seen, is_same_array, is_twin};
 use md_assembly::{MemberState, state_of};
-use md_examine::{Sink, SinkFault, number_after, put_name};
+use md_streams::{Sink, SinkFault, number_after, put_name};
 use md_super::Superblock;
 
 /// For each role its members, or that it is missing; then spares and faulty members; then devices that are there twice.
@@ -34,7 +34,7 @@ fn put_roles<S: Sink>(out: &mut S, v: &Superblock, all: &[Seen<'_>]) -> Result<(
     Ok(())
 }
 
-#[tactic(auto, unfolding(crate::specs::ScanText::role_comments), using(md_examine::proofs::Puts::puts_then))]
+#[tactic(auto, unfolding(crate::specs::ScanText::role_comments), using(md_streams::proofs::Puts::puts_then))]
 fn put_role<S: Sink>(
     out: &mut S,
     v: &Superblock,
@@ -120,7 +120,7 @@ fn put_if_missing<S: Sink>(
     }
 }
 
-#[tactic(auto, using(md_examine::proofs::Puts::puts_then))]
+#[tactic(auto, using(md_streams::proofs::Puts::puts_then))]
 fn put_missing<S: Sink>(out: &mut S, role: u32) -> Result<(), SinkFault>
     ensures { PutsOrFails S.contents S.failed out.old out.new
         (codes "# device " ++ decimal role ++ codes ": missing\n") result }
@@ -193,7 +193,7 @@ fn put_slot<S: Sink>(out: &mut S, state: MemberState) -> Result<(), SinkFault>
     }
 }
 
-#[tactic(auto, using(md_examine::proofs::Puts::puts_then))]
+#[tactic(auto, using(md_streams::proofs::Puts::puts_then))]
 fn put_place<S: Sink>(out: &mut S, role: u16) -> Result<(), SinkFault>
     ensures { PutsOrFails S.contents S.failed out.old out.new (place_comment role) result }
 {
@@ -230,7 +230,7 @@ fn put_behind<S: Sink>(out: &mut S, most: u64, own: u64) -> Result<(), SinkFault
     }
 }
 
-#[tactic(auto, using(md_examine::proofs::Puts::puts_then))]
+#[tactic(auto, using(md_streams::proofs::Puts::puts_then))]
 fn put_count_behind<S: Sink>(out: &mut S, count: u64) -> Result<(), SinkFault>
     ensures { PutsOrFails S.contents S.failed out.old out.new
         (codes ", " ++ decimal count ++ codes " behind") result }
@@ -292,7 +292,7 @@ fn put_copies<S: Sink>(
 }
 
 // The role by one number may be no role by the other, so that none is named.
-#[tactic(auto, unfolding(crate::specs::ScanText::renumbered_comment), using(md_examine::proofs::Puts::puts_then))]
+#[tactic(auto, unfolding(crate::specs::ScanText::renumbered_comment), using(md_streams::proofs::Puts::puts_then))]
 fn put_renumbered<S: Sink>(out: &mut S, first: &Seen<'_>, seen: &Seen<'_>) -> Result<(), SinkFault>
     ensures { PutsOrFails S.contents S.failed out.old out.new (renumbered_comment first.now seen.now) result }
 {
@@ -310,7 +310,7 @@ fn put_renumbered<S: Sink>(out: &mut S, first: &Seen<'_>, seen: &Seen<'_>) -> Re
     Ok(())
 }
 
-#[tactic(auto, unfolding(crate::specs::ScanText::twin_comment), using(md_examine::proofs::Puts::puts_then))]
+#[tactic(auto, unfolding(crate::specs::ScanText::twin_comment), using(md_streams::proofs::Puts::puts_then))]
 fn put_twin<S: Sink>(
     out: &mut S,
     v: &Superblock,

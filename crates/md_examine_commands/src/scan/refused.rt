@@ -1,12 +1,12 @@
 // Images that show no member: whether each is told of, and by which words.
 ghost use Rattle.std.specs.Prelude.{◌≡◌};
-ghost use Rattle.md_examine.specs.Sink.{PutsOrFails};
+ghost use Rattle.md_streams.specs.Sink.{PutsOrFails};
 ghost use Rattle.md_examine_commands.specs.Unshown.{fault_word, is_news, is_told_why, may_be_member};
 
-use md_examine::{Sink, SinkFault};
+use md_examine::put_member;
 use md_images::ImageFault;
 use md_members::MemberFault;
-use md_messages::put_member;
+use md_streams::{Sink, SinkFault};
 use md_super::SuperFault;
 
 /// Why an image shows no member.

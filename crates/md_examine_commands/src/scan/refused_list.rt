@@ -3,15 +3,15 @@ ghost use Rattle.std.specs.Prelude.{◌≡◌, ◌++◌, ◌∷◌, ◌||◌, []
 ghost use Rattle.std.specs.List.{filter};
 ghost use Rattle.json.specs.Print.{quoted};
 ghost use Rattle.serde_json.specs.Written.{comma_if, compact_text};
-ghost use Rattle.md_examine.specs.Sink.{PutsOrFails};
+ghost use Rattle.md_streams.specs.Sink.{PutsOrFails};
 ghost use Rattle.md_report.specs.AsJson.Objects.{elements_text, key_text, list_of, next_text};
 ghost use Rattle.md_examine_commands.specs.Unshown.{fault_word, is_told_why, refused_value, unshown_object};
 
 use crate::scan::refused::{Refused, ScanFault};
 use crate::scan::scan_object::stands_before;
-use md_examine::{Sink, SinkFault};
 use md_report::as_json::values::{comma_if, next_key};
 use md_report::put_quoted;
+use md_streams::{Sink, SinkFault};
 
 /// The images that it is told of why they show no member.
 pub(crate) fn put_refused_list<S: Sink>(
@@ -46,7 +46,7 @@ fn refused_elements<S: Sink>(
     Ok(())
 }
 
-#[tactic(auto, using(md_examine::proofs::Puts::puts_then))]
+#[tactic(auto, using(md_streams::proofs::Puts::puts_then))]
 fn refused_where<S: Sink>(
     out: &mut S,
     later: bool,
@@ -74,7 +74,7 @@ fn unshown<S: Sink>(out: &mut S, refused: &Refused<'_>) -> Result<(), SinkFault>
     Ok(())
 }
 
-#[tactic(auto, using(md_examine::proofs::Puts::puts_then))]
+#[tactic(auto, using(md_streams::proofs::Puts::puts_then))]
 fn open_image<S: Sink>(out: &mut S, name: &str) -> Result<(), SinkFault>
     ensures { PutsOrFails S.contents S.failed out.old out.new
         (123 ∷ (key_text (codes "image") ++ quoted name.now)) result }
@@ -85,7 +85,7 @@ fn open_image<S: Sink>(out: &mut S, name: &str) -> Result<(), SinkFault>
     Ok(())
 }
 
-#[tactic(auto, using(md_examine::proofs::Puts::puts_then))]
+#[tactic(auto, using(md_streams::proofs::Puts::puts_then))]
 fn image_key<S: Sink>(out: &mut S) -> Result<(), SinkFault>
     ensures { PutsOrFails S.contents S.failed out.old out.new (key_text (codes "image")) result }
 {

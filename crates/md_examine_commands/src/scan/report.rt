@@ -1,12 +1,12 @@
 // The report on all arrays.
 ghost use Rattle.std.specs.Prelude.{◌≡◌, ◌<◌, length};
-ghost use Rattle.md_examine.specs.Sink.{PutsOrFails};
+ghost use Rattle.md_streams.specs.Sink.{PutsOrFails};
 ghost use Rattle.md_examine_commands.specs.ScanText.{array_at, array_text, is_told_before, scan_text};
 
 use crate::scan::array_entry::{put_array_line, put_devices_line, put_spares};
 use crate::scan::member_comments::put_comments;
 use crate::scan::seen::{Seen, decider, is_same_array};
-use md_examine::{Sink, SinkFault};
+use md_streams::{Sink, SinkFault};
 
 /// Writes of which arrays images are members, by their superblocks: an entry for each, in the order of its first image. It
 /// takes no memory, and fails only where the sink has failed.

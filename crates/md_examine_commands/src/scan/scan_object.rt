@@ -4,7 +4,7 @@ ghost use Rattle.std.specs.List.{filter, fold};
 ghost use Rattle.json.specs.Print.{quoted};
 ghost use Rattle.serde_json.specs.Written.{comma_if, compact_text};
 ghost use Rattle.md_assembly.specs.States.{role_of, state_of};
-ghost use Rattle.md_examine.specs.Sink.{PutsOrFails};
+ghost use Rattle.md_streams.specs.Sink.{PutsOrFails};
 ghost use Rattle.md_report.specs.AsJson.WholeArray.MemberObjects.{number_or_null};
 ghost use Rattle.md_report.specs.AsJson.Objects.{elements_text, later_text, list_of, next_text, object_line, whole};
 ghost use Rattle.md_examine_commands.specs.ScanObject.{array_at_value, arrays_value, first_places, is_first_at, is_unseen_role, members_value, scan_array_object, scan_fields, scan_member_object, scan_member_object_in, scan_object, state_word, unseen_roles};
@@ -17,11 +17,11 @@ use crate::scan::report::is_told_before;
 use crate::scan::seen::{Seen, decider, is_same_array};
 use itoa::Buffer;
 use md_assembly::{MemberState, state_of};
-use md_examine::{Sink, SinkFault};
 use md_report::as_json::values::{
     close, comma_if, next_key, next_name, next_null, next_number, next_text, next_uuid, open,
     open_number,
 };
+use md_streams::{Sink, SinkFault};
 use md_super::Superblock;
 
 /// Writes of which arrays images are members, and which are none, as an object, alone in its line. It takes no memory, and fails
@@ -94,7 +94,7 @@ pub(crate) fn stands_before(later: bool, is_there: bool) -> bool
     later || is_there
 }
 
-#[tactic(auto, using(md_examine::proofs::Puts::puts_then))]
+#[tactic(auto, using(md_streams::proofs::Puts::puts_then))]
 fn array_where<S: Sink>(
     out: &mut S,
     later: bool,
@@ -191,7 +191,7 @@ fn member_elements<S: Sink>(out: &mut S, v: &Superblock, all: &[Seen<'_>]) -> Re
     Ok(())
 }
 
-#[tactic(auto, using(md_examine::proofs::Puts::puts_then))]
+#[tactic(auto, using(md_streams::proofs::Puts::puts_then))]
 fn member_where<S: Sink>(
     out: &mut S,
     later: bool,
@@ -303,7 +303,7 @@ fn is_unseen_role(v: &Superblock, all: &[Seen<'_>], role: u32) -> bool
     !is_taken(v, all, role)
 }
 
-#[tactic(auto, using(md_examine::proofs::Puts::puts_then))]
+#[tactic(auto, using(md_streams::proofs::Puts::puts_then))]
 fn missing_where<S: Sink>(
     out: &mut S,
     later: bool,

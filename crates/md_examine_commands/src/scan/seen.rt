@@ -10,7 +10,7 @@ use md_super::Superblock;
 use uuid::Uuid;
 
 /// The superblock of an image.
-#[derive(Debug, Drop)]
+#[derive(Drop)]
 pub struct Seen<'a> {
     pub name: &'a str,
     pub superblock: Superblock,

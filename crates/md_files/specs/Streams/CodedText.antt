@@ -2,7 +2,7 @@
 use Rattle.std.specs.Prelude.{ℕ, ◌/◌, ◌%◌, ◌==◌, ◌&&◌, not, List, [], ◌∷◌, chars, if◌then◌else◌}
 use Rattle.std.specs.Char.{digit_char, encode_utf8}
 use Rattle.std.specs.List.{flat_map}
-use Rattle.md_examine.specs.ShownNames.Shown.{is_hidden}
+use Rattle.md_streams.specs.ShownNames.Shown.{is_hidden}
 
 -- a backslash, u, and four hex digits
 abbrev pub code_text : ℕ → List ℕ

@@ -3,8 +3,8 @@ ghost use Rattle.std.specs.Prelude.{◌≡◌, ◌<◌, ◌↔◌, IsTrue};
 
 use crate::device::block_device::BlockDevice;
 use std::fs::{Files, Metadata};
-use std::io;
 use std::os::unix::fs::MetadataExt;
+use std::{fs, io};
 
 // Loop devices and partitions that stand over one another are followed so far.
 const DEEPEST: usize = 32;
@@ -27,6 +27,11 @@ enum Below {
 }
 
 impl Backing {
+    /// Where the file or the disk under a name lies. An open stream has a name in /proc.
+    pub fn of_path<R: Files + AllocGlobal>(rt: &R, path: &str) -> io::Result<Backing> {
+        Backing::of_file(rt, &fs::metadata(rt, path)?)
+    }
+
     /// Where the file with this metadata lies. Of a loop device the system names what is below by a path; where that can't be
     /// found, as it was opened in another root, the device counts as a disk of its own.
     pub(crate) fn of_file<R: Files + AllocGlobal>(rt: &R, file: &Metadata) -> io::Result<Backing> {

@@ -109,28 +109,22 @@ impl BlockDevice {
         Ok(holders.next().is_some())
     }
 
-    /// Whether a file system of a kind that tells in /sys of what it has mounted is on it: also where no process that can be read
-    /// shows the mount.
+    /// Whether /sys or /proc shows that a file system on it is mounted. Only some kinds of file systems show this there. They
+    /// show it even if no process that can be read has the mount.
     pub(crate) fn has_file_system<R: Files + AllocGlobal>(self, rt: &R) -> io::Result<bool> {
         let Some(name) = self.name(rt)? else {
             return Ok(false);
         };
-        let Some(kinds) = answer_if_told(fs::read_dir(&rt, "/sys/fs"))? else {
-            return Ok(false);
-        };
-        for kind in kinds {
-            if let Some(kind) = answer_if_told(kind)? {
-                let path = format!(in rt.alloc(); "{}/{name}", kind.path().as_str())?;
-                if answer_if_told(fs::metadata(rt, path.as_str()))?.is_some() {
-                    return Ok(true);
-                }
-            }
-        }
-        Ok(false)
+        let name = name.as_str();
+        Ok(
+            is_below_each(rt, "/sys/fs", name)?
+                || is_below_each(rt, "/proc/fs", name)?
+                || is_in_btrfs(rt, name)?,
+        )
     }
 
-    // The system's own name of it, as loop0.
-    fn name<R: Files + AllocGlobal>(self, rt: &R) -> io::Result<Option<String>> {
+    /// The system's own name for it, for example loop0.
+    pub(crate) fn name<R: Files + AllocGlobal>(self, rt: &R) -> io::Result<Option<String>> {
         let path = self.path(rt, "uevent")?;
         let lines = read(rt, path.as_str())?;
         let name = str::from_utf8(lines.as_slice()).ok().and_then(|lines| lines
@@ -168,6 +162,28 @@ impl BlockDevice {
         let path = self.path(rt, name)?;
         number(rt, path.as_str())
     }
+}
+
+// Whether one of the folders in a folder has a file of this name.
+fn is_below_each<R: Files + AllocGlobal>(rt: &R, folder: &str, name: &str) -> io::Result<bool> {
+    let Some(kinds) = answer_if_told(fs::read_dir(&rt, folder))? else {
+        return Ok(false);
+    };
+    for kind in kinds {
+        if let Some(kind) = answer_if_told(kind)? {
+            let path = format!(in rt.alloc(); "{}/{name}", kind.path().as_str())?;
+            if answer_if_told(fs::metadata(rt, path.as_str()))?.is_some() {
+                return Ok(true);
+            }
+        }
+    }
+    Ok(false)
+}
+
+// Whether a mounted Btrfs uses the device of this name, perhaps as one of several.
+fn is_in_btrfs<R: Files + AllocGlobal>(rt: &R, name: &str) -> io::Result<bool> {
+    let path = format!(in rt.alloc(); "devices/{name}")?;
+    is_below_each(rt, "/sys/fs/btrfs", path.as_str())
 }
 
 // The partition in a folder of the system's, where it is one.

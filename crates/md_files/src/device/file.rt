@@ -13,11 +13,13 @@ use md_images::{Access, ImageFault, SharedRead};
 use std::fs::{File, Files, Metadata, OpenOptions, TryLockError};
 use std::io::{ErrorKind, Seek, SeekFrom};
 use std::marker::Model;
-use std::os::unix::fs::{FileExt, FileTypeExt};
+use std::os::unix::fs::{FileExt, FileTypeExt, MetadataExt};
 use std::{fs, io};
 
 // Zeros are looked for in pieces of so many bytes.
 const PIECE: usize = 16 * BLOCK;
+
+const SECTOR: usize = 512;
 
 /// A device whose sectors are those of a regular file or of a block device. Contracts see its number
 /// of sectors, whether it can be written, whether it has failed for good, and which of its calls failed.
@@ -27,8 +29,12 @@ const PIECE: usize = 16 * BLOCK;
 /// do to a regular file that does not fail is tested. That a write waits for stable storage is
 /// neither proved nor tested: it asks the system for that before it answers `Ok`.
 ///
-/// Of what is written, pieces of 64 KiB of zeros are left out where zeros stand already. What is read of the file then was on
-/// stable storage, as long as nothing else writes to it: it is synced when it is opened to be changed, and at each write.
+/// If the file may have holes, a write leaves out pieces of 64 KiB of zeros, provided that zeros are read there already.
+///
+/// What is read of the file is on stable storage, as long as nothing else writes to it and no sync failed before it was
+/// opened: it is synced when it is opened to be changed, and at each write. After a sync fails, the system may still show the
+/// data that did not reach the disk, and answer `Ok` at each later sync. So this device writes such data again before it
+/// answers, and the next opening syncs it. This is tested, and not proved.
 ///
 /// While it is open the file is locked against other openings, and dropping it ends the lock.
 #[derive(Drop)]
@@ -39,6 +45,8 @@ pub struct FileDevice {
     backing: Backing,
     sectors: u64,
     writable: bool,
+    // Whether it is a regular file that takes less space on its disk than it has bytes.
+    has_holes: bool,
     sync_failed: bool,
     faults: FaultList,
 }
@@ -73,10 +81,10 @@ impl FileDevice {
     ///
     /// A block device that the system uses is not opened to be changed, nor is a file that it swaps on, nor what lies
     /// below a loop device that it uses, its backing file or that of a loop device between. That is what /proc and /sys
-    /// tell: the mounts that any process has which can be read, in whatever mount namespace, the swaps, the holders, and the
-    /// file systems of the kinds that tell in /sys what they have mounted. Of a backing file they tell by the path at which
-    /// it was opened. Where /proc or /sys is not there, a block device is not opened to be changed, and neither is a file
-    /// that a loop device may stand over.
+    /// tell: the mounts of each process that can be read, in whatever mount namespace, the swaps, the holders, and the
+    /// file systems of the kinds that show there what they have mounted. For other kinds, `nodes_unseen` names what may be
+    /// mounted out of sight. They name a backing file by the path at which it was opened. If /proc or /sys is missing,
+    /// a block device is not opened to be changed, and neither is a file that a loop device may use.
     ///
     /// It doesn't wait for the other end of a pipe: what kind of file a path names is asked before
     /// it is opened, and again of what was opened.
@@ -125,19 +133,34 @@ impl FileDevice {
         file.seek(SeekFrom::End(0)).map_or(true, |len| len < end)
     }
 
-    // Brings what was written to stable storage. What could not be brought there is still in the
-    // system's memory, and is not tried again: a read would give what the disk doesn't have, and the
-    // next sync would answer that all is well.
-    fn sync(&mut self) -> Result<(), WriteFault>
+    // Syncs what was written. These are some of these bytes from here on, since each call that writes ends with a sync. If the
+    // sync fails they are written again, and not synced again: only a later opening may trust its own sync.
+    fn sync(&mut self, bytes: &[u8], from: u64) -> Result<(), WriteFault>
+        requires { from + length bytes.now < 2 ^ 64 }
         ensures ok { OnOk result (self.new ≡ self.old) }
         ensures err { OnErr result (self.new ≡ record self.old { sync_failed = true }) }
     {
         let file = &self.file;
         if file.sync_data().is_err() {
             self.sync_failed = true;
+            self.write_again(bytes, from);
             return Err(WriteFault);
         }
         Ok(())
+    }
+
+    // Writes each sector of these bytes from here on, also those behind one that can't be written. It writes zeros too: the disk
+    // may lack the zeros that are read there.
+    fn write_again(&self, bytes: &[u8], from: u64)
+        requires { from + length bytes.now < 2 ^ 64 }
+    {
+        let file = &self.file;
+        // The last one may be only a part of a sector, or empty.
+        for sector in 0..bytes.len() / SECTOR + 1 {
+            let at = SECTOR * sector;
+            let end = (at + SECTOR).min(bytes.len());
+            let _ = file.write_all_at(&bytes[at..end], from + at as u64);
+        }
     }
 }
 
@@ -232,15 +255,20 @@ impl FileDevice {
         if !self.writable || self.is_cut_before(end) {
             return Err(WriteFault);
         }
-        if self.write_but_zeros(bytes, 512 * sector)? {
-            self.sync()
-        } else {
-            Ok(())
+        let from = 512 * sector;
+        let written = self.write_but_zeros(bytes, from);
+        if matches!(written, Ok(false)) {
+            return Ok(());
         }
+        // A write that failed may have written some of them. They are synced now: a later sync that fails writes only its own
+        // bytes again.
+        self.sync(bytes, from)?;
+        written.map(|_| ())
     }
 
-    // Writes these bytes from here on, but for pieces of zeros where the file has zeros: so what is sparse stays so, and what is empty
-    // costs no write. The answer is whether any were written.
+    // Writes these bytes from here on. If the file may have holes, it leaves out pieces of zeros that are read as zeros already, so
+    // that a sparse file stays sparse. In a file without holes it writes all: zeros that are read there may come from a write that
+    // never reached the disk. The answer is whether it wrote any.
     fn write_but_zeros(&self, bytes: &[u8], from: u64) -> Result<bool, WriteFault>
         requires { from + length bytes.now < 2 ^ 64 }
     {
@@ -248,7 +276,10 @@ impl FileDevice {
         let mut is_written = false;
         for piece in 0..bytes.len() / PIECE {
             let at = PIECE * piece;
-            if is_zero_piece(&bytes[at..at + PIECE]) && self.holds_zeros(from + at as u64) {
+            if self.has_holes
+                && is_zero_piece(&bytes[at..at + PIECE])
+                && self.holds_zeros(from + at as u64)
+            {
                 is_written |= self.write_run(&bytes[start..at], from + start as u64)?;
                 start = at + PIECE;
             }
@@ -401,6 +432,7 @@ fn device_of<R: Files<File = File> + AllocGlobal>(
         backing,
         sectors: (len / 512).min(1 << 54),
         writable,
+        has_holes: metadata.file_type().is_file() && metadata.blocks() < len / 512,
         sync_failed: false,
         faults: FaultList::empty(),
     })

@@ -34,6 +34,48 @@ pub(crate) fn check_unused<R: Files + AllocGlobal>(
     Ok(())
 }
 
+/// The nodes of the block devices that may be mounted though nothing shows it: the device under this name, its partitions, and
+/// the loop devices over it, or over the file under this name. The first has this name as its node. None if all mounts are seen.
+pub fn nodes_unseen<R: Files + AllocGlobal>(rt: &R, path: &str) -> Result<Vec<String>, ImageFault> {
+    let mut nodes = Vec::new(rt.alloc());
+    let Some(file) = answer_if_told(fs::metadata(rt, path)).map_err(ImageFault::Io)? else {
+        return Ok(nodes);
+    };
+    let devices = devices_on(rt, &file)?;
+    if devices.is_empty() {
+        return Ok(nodes);
+    }
+    if Mounts::read(rt)?.may_lack_some(rt).map_err(ImageFault::Io)? {
+        let own = BlockDevice::of_node(&file);
+        for device in &devices {
+            add_nodes(rt, *device, own, path, &mut nodes).map_err(ImageFault::Io)?;
+        }
+    }
+    Ok(nodes)
+}
+
+// Adds the nodes of a device and of its partitions. The path is the node of the named device.
+fn add_nodes<R: Files + AllocGlobal>(
+    rt: &R,
+    device: BlockDevice,
+    own: Option<BlockDevice>,
+    path: &str,
+    nodes: &mut Vec<String>,
+) -> io::Result<()> {
+    let parts = match device.disk(rt)? {
+        Some(_) => vec![in rt.alloc(); device; 1]?,
+        None => device.with_partitions_or_disk(rt)?,
+    };
+    for part in &parts {
+        if own == Some(*part) {
+            nodes.push(String::from_str(rt.alloc(), path)?)?;
+        } else if let Some(name) = part.name(rt)? {
+            nodes.push(format!(in rt.alloc(); "/dev/{name}")?)?;
+        }
+    }
+    Ok(())
+}
+
 // Whether a device, one of its partitions or the disk of which it is a partition is mounted, swapped on or held.
 fn is_used<R: Files + AllocGlobal>(
     rt: &R,

@@ -11,3 +11,4 @@ mod told;
 
 pub use backing::Backing;
 pub use file::FileDevice;
+pub use in_use::nodes_unseen;

@@ -7,10 +7,16 @@ use std::fs::{Files, Metadata};
 use std::os::unix::fs::MetadataExt;
 use std::{fs, io, str};
 
+// The number of the first process namespace, which is the same in every kernel (linux/proc_ns.h, PROC_PID_INIT_INO).
+const FIRST_PROCESSES: u64 = 0xeffffffc;
+
 /// The block devices that are mounted or swapped on.
 #[derive(Drop)]
 pub(crate) struct Mounts {
     devices: Vec<BlockDevice>,
+    // The mount namespaces that were seen, and those that a file keeps.
+    seen: Vec<u64>,
+    kept: Vec<u64>,
 }
 
 // What mounts a process sees: those of its mount namespace, from its root on.
@@ -32,6 +38,8 @@ impl Mounts {
         };
         let mut mounts = Mounts {
             devices: Vec::new(rt.alloc()),
+            seen: Vec::new(rt.alloc()),
+            kept: Vec::new(rt.alloc()),
         };
         mounts.add(rt, own.as_slice()).map_err(ImageFault::Io)?;
         let swaps = read(rt, "/proc/swaps").map_err(ImageFault::Io)?;
@@ -58,6 +66,20 @@ impl Mounts {
         self.devices.iter().any(|device| devices.contains(device))
     }
 
+    /// Whether something may be mounted that these do not show. It may be if this process is in a container: then a process outside
+    /// may have mounted it. It also may be if a file keeps a mount namespace, and no process in that namespace can be read.
+    pub(crate) fn may_lack_some<R: Files>(&self, rt: &R) -> io::Result<bool> {
+        let processes = answer_if_told(fs::metadata(rt, "/proc/self/ns/pid"))?;
+        let is_contained = processes.is_some_and(|own| own.ino() != FIRST_PROCESSES);
+        Ok(
+            is_contained
+                || !self
+                    .kept
+                    .iter()
+                    .all(|namespace| self.seen.contains(namespace)),
+        )
+    }
+
     fn add_process<R: Files + AllocGlobal>(
         &mut self,
         rt: &R,
@@ -76,6 +98,7 @@ impl Mounts {
         };
         if let Some(view) = view {
             seen.views.push(view)?;
+            self.seen.push(view.namespace.1)?;
         }
         if table.as_slice() != seen.last.as_slice() {
             self.add(rt, table.as_slice())?;
@@ -84,11 +107,14 @@ impl Mounts {
         Ok(())
     }
 
-    // Adds what the words of a table name. The system's list of mounts has the numbers of what is mounted, and its node, which
-    // alone tells where a file system has numbers of its own, as btrfs. The list of swap spaces has nodes.
+    // Adds what the words of a table name. The system's list of mounts has the number and the node of each mounted device. A file
+    // system with numbers of its own, such as btrfs, shows its device only by the node. The list of swap spaces has nodes. If a file
+    // keeps a mount namespace, that is a mount too.
     fn add<R: Files>(&mut self, rt: &R, table: &[u8]) -> io::Result<()> {
         for word in table.split(|byte| byte.is_ascii_whitespace()) {
-            if let Some(device) = device_named(rt, word)
+            if let Some(namespace) = namespace_named(word) {
+                self.kept.push(namespace)?;
+            } else if let Some(device) = device_named(rt, word)
                 && !self.devices.contains(&device)
             {
                 self.devices.push(device)?;
@@ -126,6 +152,12 @@ fn node_below<R: Files + AllocGlobal>(
 
 fn is_number(name: &str) -> bool {
     name.bytes().all(|byte| byte.is_ascii_digit())
+}
+
+// The mount namespace that a word names, for example `mnt:[4026532281]`.
+fn namespace_named(word: &[u8]) -> Option<u64> {
+    let number = word.strip_prefix(b"mnt:[")?.strip_suffix(b"]")?;
+    str::from_utf8(number).ok()?.parse().ok()
 }
 
 // The block device that a word names, by its numbers or by a node.

@@ -20,6 +20,6 @@ mod maps;
 pub use device::MaskedDevice;
 pub use images::{
     LackingFault, MapOutFault, MapRefusal, MapText, MapWord, MapsFault, MaskedImages, map_advice,
-    map_list, map_out_advice, mask_images, mask_of, strange_command,
+    map_list, map_out_advice, mask_images, strange_command,
 };
 pub use maps::{Block, LineFault, MapFault, command_of, read_map, write_map, write_map_of_read};

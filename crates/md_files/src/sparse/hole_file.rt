@@ -1,8 +1,8 @@
 // A file that can have holes.
 ghost use Rattle.std.specs.Prelude.{Option, List, ℕ, Bool, replicate};
-ghost use Rattle.md_examine.specs.Sink.{FlushesOrFails, PutsOrFails};
+ghost use Rattle.md_streams.specs.Sink.{FlushesOrFails, PutsOrFails};
 
-use md_examine::SinkFault;
+use md_streams::SinkFault;
 
 /// A new file that is written from its start to its end, and in which parts can be left out: these are holes, which are read as
 /// zeros and take no room on a disk. Nothing is promised of which bytes of it take room.

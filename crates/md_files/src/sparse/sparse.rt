@@ -1,11 +1,11 @@
 // A sink that leaves out blocks of zeros.
 ghost use Rattle.std.specs.Prelude.{◌≡◌, ◌++◌, length, replicate, true};
-ghost use Rattle.md_examine.specs.Sink.{PutsOrFails};
+ghost use Rattle.md_streams.specs.Sink.{PutsOrFails};
 ghost use Rattle.md_files.specs.Sparse.Sparse.{file_of};
 
 use crate::sparse::hole_file::HoleFile;
 use crate::zeros::{BLOCK, is_zero};
-use md_examine::{Sink, SinkFault};
+use md_streams::{Sink, SinkFault};
 
 /// A sink into a file. Of what is put into it, each block of 4 KiB of zeros is left out, counted from where a `put` begins; the
 /// bytes of the file are the same as if it were written. Runs of other blocks are passed on whole.
@@ -65,7 +65,7 @@ fn put_blocks<F: HoleFile>(file: &mut F, bytes: &[u8]) -> Result<(), SinkFault>
 }
 
 // Writes what stands before a block of zeros, and leaves the block out.
-#[tactic(auto, using(md_examine::proofs::Puts::puts_then))]
+#[tactic(auto, using(md_streams::proofs::Puts::puts_then))]
 fn leave_out<F: HoleFile>(file: &mut F, before: &[u8]) -> Result<(), SinkFault>
     ensures { PutsOrFails F.contents F.failed file.old file.new (before.now ++ replicate 4096 0) result }
 {

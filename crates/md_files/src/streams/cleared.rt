@@ -7,7 +7,7 @@ ghost use Rattle.md_files.specs.Streams.Cleared.{cleared_contents, cleared_write
 ghost use Rattle.md_files.specs.Streams.CodedText.{coded};
 
 use crate::streams::coded_text::put_coded;
-use md_examine::{Sink, SinkFault};
+use md_streams::{Sink, SinkFault};
 use std::io::{self, ErrorKind, Write};
 use std::str;
 

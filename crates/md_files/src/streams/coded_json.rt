@@ -1,12 +1,12 @@
 // A report in which no character hides.
 ghost use Rattle.std.specs.Prelude.{◌≡◌, [], true, OnErr, OnOk};
 ghost use Rattle.std.specs.Str.{IsUtf8};
-ghost use Rattle.md_examine.specs.Sink.{FlushesOrFails, PutsOrFails};
+ghost use Rattle.md_streams.specs.Sink.{FlushesOrFails, PutsOrFails};
 ghost use Rattle.md_files.specs.Streams.CodedJson.{held_count, is_coded_json, json_contents, json_sink_of};
 ghost use Rattle.md_files.specs.Streams.CodedText.{coded};
 
 use crate::streams::coded_text::put_coded;
-use md_examine::{Sink, SinkFault};
+use md_streams::{Sink, SinkFault};
 use std::str;
 
 // A character of UTF-8 has so many bytes at most.

@@ -1,10 +1,8 @@
 // Text in which no character hides.
-ghost use Rattle.std.specs.Prelude.{◌≡◌, ◌%◌};
-ghost use Rattle.std.specs.Char.{digit_char};
-ghost use Rattle.md_examine.specs.Sink.{PutsOrFails};
+ghost use Rattle.md_streams.specs.Sink.{PutsOrFails};
 ghost use Rattle.md_files.specs.Streams.CodedText.{code_text, coded, coded_char};
 
-use md_examine::{Sink, SinkFault, hides, is_hidden};
+use md_streams::{Sink, SinkFault, hex_digit, hides, is_hidden};
 
 /// Puts out a text in which `\u` and four hex digits stand for each character that is not shown as it is, but for the line
 /// feed. In a string of JSON it is the same character. It takes no memory, and fails only where the sink has failed.
@@ -37,20 +35,9 @@ fn put_code<S: Sink>(out: &mut S, code: u32) -> Result<(), SinkFault>
     out.put(&[
         b'\\',
         b'u',
-        hex_digit(code / 4096),
-        hex_digit(code / 256),
-        hex_digit(code / 16),
-        hex_digit(code),
+        hex_digit((code / 4096 % 16) as u8),
+        hex_digit((code / 256 % 16) as u8),
+        hex_digit((code / 16 % 16) as u8),
+        hex_digit((code % 16) as u8),
     ])
-}
-
-fn hex_digit(code: u32) -> u8
-    ensures { result ≡ digit_char (code % 16) }
-{
-    let digit = (code % 16) as u8;
-    if digit < 10 {
-        b'0' + digit
-    } else {
-        b'a' - 10 + digit
-    }
 }

@@ -1,7 +1,7 @@
 // Where what is put out goes.
 ghost use Rattle.md_files.specs.Streams.Destination.{destination_contents, destination_failed, is_destination_flushed};
 
-use md_examine::{Sink, SinkFault};
+use md_streams::{Sink, SinkFault};
 
 /// Standard output, or a new file: in all that a sink does it is the one for which it stands.
 #[derive(Drop)]

@@ -6,7 +6,7 @@ use crate::span::Span;
 use std::alloc::Global;
 
 /// The sectors of the array that a request writes.
-#[derive(Clone, Copy, Debug)]
+#[derive(Clone, Copy)]
 pub struct Extent {
     pub start: u64,
     pub sectors: u64,

@@ -1,9 +1,9 @@
 -- Why a command is refused, as text. A fault of a call that it makes is shown as it is.
 use Rattle.std.specs.Prelude.{ℕ, List, ◌++◌, codes, decimal}
-use Rattle.md_commands.specs.declared.fault.CommandFault.{CommandFault}
-use Rattle.md_commands.specs.declared.fault.CommandFault.TheVariants as command
+use Rattle.md_refusals.specs.declared.fault.CommandFault.{CommandFault}
+use Rattle.md_refusals.specs.declared.fault.CommandFault.TheVariants as command
 use Rattle.md_messages.specs.FaultText.Calls.{check_refusal_text, rebuild_text, resync_text, stop_text, unread_refusal_text}
-use Rattle.md_messages.specs.FaultText.Members.{member_refusal_text}
+use Rattle.md_examine.specs.Members.{member_refusal_text}
 use Rattle.md_messages.specs.FaultText.Openings.{create_text, grow_text, open_refusal_text, option_text}
 use Rattle.md_messages.specs.FaultText.Steps.{add_text, begin_text, fail_text, re_add_text, remove_text}
 
@@ -19,6 +19,7 @@ fault_text (command.Grow why) = grow_text why
 fault_text (command.MetadataFault word) = codes "MetadataFault " ++ decimal word
 fault_text command.NoMemory = codes "NoMemory"
 fault_text command.Declined = codes "Declined"
+fault_text (command.NotAll role) = codes "NotAll " ++ decimal role
 fault_text (command.Open why) = open_refusal_text why
 fault_text command.InputFault = codes "InputFault"
 fault_text command.NoPieceMemory = codes "NoMemory"

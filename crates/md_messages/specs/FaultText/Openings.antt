@@ -4,15 +4,15 @@ use Rattle.md_array.specs.declared.fault.OpenFault.{OpenFault}
 use Rattle.md_array.specs.declared.fault.OpenFault.TheVariants as open_fault
 use Rattle.md_assembly.specs.declared.fault.AssembleFault.{AssembleFault}
 use Rattle.md_assembly.specs.declared.fault.AssembleFault.TheVariants as assemble
-use Rattle.md_commands.specs.declared.data_of_fault.DataOfFault.{DataOfFault}
-use Rattle.md_commands.specs.declared.data_of_fault.DataOfFault.TheVariants as data_of
-use Rattle.md_commands.specs.declared.option_fault.OptionFault.{OptionFault}
-use Rattle.md_commands.specs.declared.option_fault.OptionFault.TheVariants as option
+use Rattle.md_refusals.specs.declared.data_of_fault.DataOfFault.{DataOfFault}
+use Rattle.md_refusals.specs.declared.data_of_fault.DataOfFault.TheVariants as data_of
+use Rattle.md_refusals.specs.declared.option_fault.OptionFault.{OptionFault}
+use Rattle.md_refusals.specs.declared.option_fault.OptionFault.TheVariants as option
 use Rattle.md_create.specs.declared.fault.CreateFault.{CreateFault}
 use Rattle.md_create.specs.declared.fault.CreateFault.TheVariants as create
 use Rattle.md_metadata.specs.declared.bitmap_grow.fault.GrowFault.{GrowFault}
 use Rattle.md_metadata.specs.declared.bitmap_grow.fault.GrowFault.TheVariants as grow
-use Rattle.md_messages.specs.FaultText.Members.{member_refusal_text}
+use Rattle.md_examine.specs.Members.{member_refusal_text}
 
 -- two devices of one number, by their places
 abbrev pub double_number_text : ℕ → ℕ → List ℕ

@@ -10,7 +10,7 @@ use Rattle.md_faults.specs.declared.step_fault.FailFault.{FailFault}
 use Rattle.md_faults.specs.declared.step_fault.FailFault.TheVariants as fail
 use Rattle.md_faults.specs.declared.step_fault.RemoveFault.{RemoveFault}
 use Rattle.md_faults.specs.declared.step_fault.RemoveFault.TheVariants as remove
-use Rattle.md_messages.specs.FaultText.Members.{member_refusal_text}
+use Rattle.md_examine.specs.Members.{member_refusal_text}
 
 -- a request of a write
 abbrev pub begin_text : BeginFault → List ℕ

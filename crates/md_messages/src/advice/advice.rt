@@ -3,12 +3,12 @@ use crate::advice::geometry_advice::SMALLEST_IMAGE;
 use md_array::{AddFault, BeginFault, FailFault, OpenFault, ReAddFault, RemoveFault};
 use md_assembly::AssembleFault;
 use md_check::CheckFault;
-use md_commands::{CommandFault, DataOfFault, OptionFault};
 use md_copy::RebuildFault;
 use md_create::CreateFault;
 use md_members::MemberFault;
 use md_metadata::{GrowFault, StopFault};
 use md_read::UnreadFault;
+use md_refusals::{CommandFault, DataOfFault, OptionFault};
 use md_resync::ResyncFault;
 use md_super::SuperFault;
 
@@ -33,7 +33,10 @@ pub(crate) fn advice(fault: &CommandFault) -> &'static str {
             BEGIN_ANEW
         }
         CommandFault::Declined => {
-            "nothing was overwritten: name another image, or answer `yes`, which `--run` does"
+            "nothing was overwritten: name another image, or answer `yes`, which `--run` does, and where there is no terminal `--run` alone"
+        }
+        CommandFault::NotAll(_) => {
+            "name the image of this role too, of whose device `detail --readonly` tells; where it is gone, `--run` goes on without it: name it from then on only to `re-add` or `add`"
         }
         CommandFault::InputFault =>
             "see why its file or program fails; where `write` has written some of it, it says how much: run `resync` then",

@@ -1,13 +1,13 @@
 // The text of a fault of a whole call.
-ghost use Rattle.md_examine.specs.Sink.{PutsOrFails};
+ghost use Rattle.md_streams.specs.Sink.{PutsOrFails};
 ghost use Rattle.md_messages.specs.FaultText.Calls.{check_refusal_text, rebuild_text, resync_text, stop_text, unread_chunk_text, unread_refusal_text};
 
 use md_check::CheckFault;
 use md_copy::RebuildFault;
-use md_examine::{Sink, SinkFault, number_after};
 use md_metadata::StopFault;
 use md_read::UnreadFault;
 use md_resync::ResyncFault;
+use md_streams::{Sink, SinkFault, number_after};
 
 /// Puts out why an array is not stopped.
 pub(crate) fn put_stop<S: Sink>(out: &mut S, fault: StopFault) -> Result<(), SinkFault>

@@ -1,14 +1,14 @@
 // The text of a fault of a command.
 ghost use Rattle.std.specs.Prelude.{◌≡◌, IfOk};
-ghost use Rattle.md_examine.specs.Sink.{PutsOrFails};
+ghost use Rattle.md_streams.specs.Sink.{PutsOrFails};
 ghost use Rattle.md_messages.specs.FaultText.Commands.{refusal_line, fault_text, told_fault};
 
 use crate::fault_text::calls::{put_check, put_rebuild, put_resync, put_stop, put_unread};
-use crate::fault_text::members::put_member;
 use crate::fault_text::openings::{put_create, put_grow, put_open, put_option};
 use crate::fault_text::steps::{put_add, put_begin, put_fail, put_re_add, put_remove};
-use md_commands::CommandFault;
-use md_examine::{Output, Sink, SinkFault, number_after};
+use md_examine::put_member;
+use md_refusals::CommandFault;
+use md_streams::{Output, Sink, SinkFault, number_after};
 use std::alloc::Global;
 
 #[tactic(auto, unfolding(crate::specs::FaultText::Commands::fault_text))]
@@ -26,6 +26,7 @@ fn put_fault<S: Sink>(out: &mut S, fault: &CommandFault) -> Result<(), SinkFault
         CommandFault::MetadataFault(word) => number_after(out, b"MetadataFault ", *word),
         CommandFault::NoMemory | CommandFault::NoPieceMemory => out.put(b"NoMemory"),
         CommandFault::Declined => out.put(b"Declined"),
+        CommandFault::NotAll(role) => number_after(out, b"NotAll ", *role),
         CommandFault::Open(fault) => put_open(out, *fault),
         CommandFault::InputFault => out.put(b"InputFault"),
         CommandFault::OutOfRange => out.put(b"OutOfRange"),
@@ -46,7 +47,7 @@ fn put_fault<S: Sink>(out: &mut S, fault: &CommandFault) -> Result<(), SinkFault
 }
 
 /// Puts out the line of a command that is refused. It takes no memory, and fails only where the output has failed.
-#[tactic(auto, unfolding(crate::specs::FaultText::Commands::refusal_line), using(md_examine::proofs::Puts::puts_then))]
+#[tactic(auto, unfolding(crate::specs::FaultText::Commands::refusal_line), using(md_streams::proofs::Puts::puts_then))]
 pub fn put_fault_line<S: Sink>(out: &mut S, fault: &CommandFault) -> Result<(), SinkFault>
     ensures { PutsOrFails S.contents S.failed out.old out.new (refusal_line fault.now) result }
 {
@@ -57,7 +58,7 @@ pub fn put_fault_line<S: Sink>(out: &mut S, fault: &CommandFault) -> Result<(), 
 }
 
 // The text of a fault after the program's name.
-#[tactic(auto, unfolding(crate::specs::FaultText::Commands::told_fault), using(md_examine::proofs::Puts::puts_then))]
+#[tactic(auto, unfolding(crate::specs::FaultText::Commands::told_fault), using(md_streams::proofs::Puts::puts_then))]
 fn put_told_fault<S: Sink>(out: &mut S, fault: &CommandFault) -> Result<(), SinkFault>
     ensures { PutsOrFails S.contents S.failed out.old out.new (told_fault fault.now) result }
 {

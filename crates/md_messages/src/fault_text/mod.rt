@@ -9,9 +9,7 @@
 
 mod calls;
 mod commands;
-mod members;
 mod openings;
 mod steps;
 
 pub use commands::{fault_words, put_fault_line, refusal_words};
-pub use members::put_member;

@@ -1,17 +1,17 @@
 // The text of a fault of devices that are opened as an array, made one, or given a bitmap.
 ghost use Rattle.std.specs.Prelude.{◌++◌};
-ghost use Rattle.md_examine.specs.Sink.{PutsOrFails};
-ghost use Rattle.md_messages.specs.FaultText.Members.{member_refusal_text};
+ghost use Rattle.md_streams.specs.Sink.{PutsOrFails};
+ghost use Rattle.md_examine.specs.Members.{member_refusal_text};
 ghost use Rattle.md_messages.specs.FaultText.Openings.{assemble_text, create_text, data_of_text, double_number_text, grow_text, open_refusal_text, option_text, unread_member_text};
 
-use crate::fault_text::members::put_member;
 use md_array::OpenFault;
 use md_assembly::AssembleFault;
-use md_commands::{DataOfFault, OptionFault};
 use md_create::CreateFault;
-use md_examine::{Sink, SinkFault, number_after};
+use md_examine::put_member;
 use md_members::MemberFault;
 use md_metadata::GrowFault;
+use md_refusals::{DataOfFault, OptionFault};
+use md_streams::{Sink, SinkFault, number_after};
 
 fn put_double_number<S: Sink>(out: &mut S, first: usize, second: usize) -> Result<(), SinkFault>
     ensures { PutsOrFails S.contents S.failed out.old out.new (double_number_text first second) result }
@@ -37,7 +37,7 @@ fn put_assemble<S: Sink>(out: &mut S, fault: AssembleFault) -> Result<(), SinkFa
     }
 }
 
-#[tactic(auto, using(md_examine::proofs::Puts::puts_then))]
+#[tactic(auto, using(md_streams::proofs::Puts::puts_then))]
 fn put_assembly<S: Sink>(out: &mut S, fault: AssembleFault) -> Result<(), SinkFault>
     ensures { PutsOrFails S.contents S.failed out.old out.new
         (open_refusal_text (OpenFault.Assemble fault)) result }
@@ -47,7 +47,7 @@ fn put_assembly<S: Sink>(out: &mut S, fault: AssembleFault) -> Result<(), SinkFa
     Ok(())
 }
 
-#[tactic(auto, using(md_examine::proofs::Puts::puts_then))]
+#[tactic(auto, using(md_streams::proofs::Puts::puts_then))]
 fn put_unread_member<S: Sink>(
     out: &mut S,
     device: usize,

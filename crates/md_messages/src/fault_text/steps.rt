@@ -1,12 +1,12 @@
 // The text of a fault of a step.
 ghost use Rattle.std.specs.Prelude.{◌++◌};
-ghost use Rattle.md_examine.specs.Sink.{PutsOrFails};
+ghost use Rattle.md_streams.specs.Sink.{PutsOrFails};
 ghost use Rattle.md_messages.specs.FaultText.Steps.{add_text, begin_text, fail_text, re_add_text, remove_text};
 
-use crate::fault_text::members::put_member;
 use md_array::{AddFault, BeginFault, FailFault, ReAddFault, RemoveFault};
-use md_examine::{Sink, SinkFault, number_after};
+use md_examine::put_member;
 use md_members::MemberFault;
+use md_streams::{Sink, SinkFault, number_after};
 
 /// Puts out why bytes are not written.
 pub(crate) fn put_begin<S: Sink>(out: &mut S, fault: BeginFault) -> Result<(), SinkFault>
@@ -60,7 +60,7 @@ pub(crate) fn put_add<S: Sink>(out: &mut S, fault: AddFault) -> Result<(), SinkF
     }
 }
 
-#[tactic(auto, using(md_examine::proofs::Puts::puts_then))]
+#[tactic(auto, using(md_streams::proofs::Puts::puts_then))]
 fn put_unread<S: Sink>(out: &mut S, fault: MemberFault) -> Result<(), SinkFault>
     ensures { PutsOrFails S.contents S.failed out.old out.new (re_add_text (ReAddFault.Member fault)) result }
 {

@@ -1,7 +1,5 @@
 -- The members get their bitmaps, one after another.
 use Rattle.std.specs.Prelude.{◌≡◌, ◌⊎◌, ℕ, ◌+◌, ◌*◌, ◌<◌, ◌≤◌, List, [], ◌∷◌, length, slice_get, Some}
-use Rattle.md_members.specs.declared.fault.MemberFault.{MemberFault}
-use Rattle.md_members.specs.declared.fault.MemberFault.TheVariants as member_fault
 use Rattle.md_members.specs.declared.info.MemberInfo.{MemberInfo}
 use Rattle.md_array.specs.Open.Members.{AreRead, RefusesDeviceRead}
 use Rattle.md_state.specs.View.{Disk}
@@ -77,11 +75,6 @@ OnMember P _ = ⊥
 
 abbrev pub RefusesStoring : Growth → List Disk → List Disk → GrowFault → Type 0
 RefusesStoring g before after = OnMember (λ k. EndsInBitmaps g before after k ⊎ EndsInSuperblocks g before after k)
-
--- the fault where device k is not read as a member for this reason
-abbrev pub fault_of : ℕ → MemberFault → GrowFault
-fault_of k member_fault.NoMemory = NoMemory
-fault_of k fault = Member k fault
 
 -- a device is not read as a member
 abbrev pub RefusesGrowReading : List Disk → List Disk → GrowFault → Type 0

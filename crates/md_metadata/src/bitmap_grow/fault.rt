@@ -1,11 +1,12 @@
 // Why an array gets no bitmap. A message is the fault's name and its values, one space between them.
+use md_array::OpenFault;
 use md_assembly::AssembleFault;
 use md_members::MemberFault;
 use std::alloc::AllocError;
 use thiserror::Error;
 
 /// Why an array gets no bitmap, in the order in which it is looked for. A device is named by its index in the list.
-#[derive(Clone, Copy, Debug, PartialEq, Eq, Error)]
+#[derive(Clone, Copy, Debug, Error)]
 pub enum GrowFault {
     /// The device is not read as a member.
     #[error("Member {0} {1}")]
@@ -43,6 +44,21 @@ impl From<AssembleFault> for GrowFault {
         match fault {
             AssembleFault::NoMemory => GrowFault::NoMemory,
             _ => GrowFault::Assemble(fault),
+        }
+    }
+}
+
+impl From<OpenFault> for GrowFault {
+    ghost use Rattle.std.specs.Prelude.{◌≡◌};
+    ghost use Rattle.md_metadata.specs.Grow.Faults.{reading_refusal_of};
+
+    ghost from_gives = { λ f e. e ≡ reading_refusal_of f };
+
+    // A fault in reading the members becomes one of the first two.
+    fn from(fault: OpenFault) -> GrowFault {
+        match fault {
+            OpenFault::Member(k, fault) => GrowFault::Member(k, fault),
+            _ => GrowFault::NoMemory,
         }
     }
 }

@@ -21,7 +21,7 @@ use std::alloc::{AllocError, Global};
 const DAEMON_SLEEP: u32 = 5;
 
 /// What the members get: these as they are to be, where the fields of the array are `shared`, and a bitmap from sector `start` on.
-#[derive(Debug, Drop)]
+#[derive(Drop)]
 pub(crate) struct Growth {
     pub(crate) members: Vec<MemberInfo>,
     pub(crate) shared: Superblock,

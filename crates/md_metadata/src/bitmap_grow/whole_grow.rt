@@ -1,15 +1,14 @@
 // Growing an array by a bitmap.
 ghost use Rattle.std.specs.Prelude.{◌≡◌, ◌⊎◌, map, length, MatchResult};
-ghost use Rattle.md_array.specs.Open.Members.{AreRead};
 ghost use Rattle.md_state.specs.View.{disk_of};
 ghost use Rattle.md_state.specs.DeviceChanges.{IsUntouched};
-ghost use Rattle.md_metadata.specs.Grow.Growing.{Grows, FindsGrowth, RefusesMembers, RefusesGrowReading, RefusesToGrow, fault_of};
+ghost use Rattle.md_metadata.specs.Grow.Growing.{Grows, FindsGrowth, RefusesMembers, RefusesGrowReading, RefusesToGrow};
 
 use crate::bitmap_grow::fault::GrowFault;
 use crate::bitmap_grow::growth::{Growth, growth_of};
 use crate::bitmap_grow::store::store_each;
+use md_array::read_members;
 use md_device::Device;
-use md_members::{MemberFault, MemberInfo, read_member};
 use std::alloc::Global;
 
 /// Puts a bitmap with chunks of so many bytes on each member of the array that the devices make, which lack one. All chunks are
@@ -38,33 +37,4 @@ fn find_growth<D: Device>(
 {
     let infos = read_members(alloc, devices)?;
     growth_of(alloc, infos, chunk_bytes)
-}
-
-// Reads each device as a member, up to the first that is refused.
-fn read_members<D: Device>(alloc: Global, devices: &mut [D]) -> Result<Vec<MemberInfo>, GrowFault>
-    ensures as_many { length devices.new ≡ length devices.old }
-    ensures untouched { IsUntouched (map (disk_of D.Device) devices.old) (map (disk_of D.Device) devices.new) }
-    ensures read { MatchResult result (λ infos. AreRead (map (disk_of D.Device) devices.old) infos.items)
-        (RefusesGrowReading (map (disk_of D.Device) devices.old) (map (disk_of D.Device) devices.new)) }
-{
-    let mut infos = Vec::with_capacity(alloc, devices.len())?;
-    for k in 0..devices.len() {
-        // For the proof: a device has at most 2^54 sectors.
-        let _sectors = devices[k].sectors();
-        match read_member(alloc, &mut devices[k]) {
-            Ok(info) => infos.push_reserved(info),
-            Err(fault) => return Err(refusal(k, fault)),
-        }
-    }
-    Ok(infos)
-}
-
-// The fault where device k is not read as a member.
-fn refusal(k: usize, fault: MemberFault) -> GrowFault
-    ensures { result ≡ fault_of k fault }
-{
-    match fault {
-        MemberFault::NoMemory => GrowFault::NoMemory,
-        _ => GrowFault::Member(k, fault),
-    }
 }

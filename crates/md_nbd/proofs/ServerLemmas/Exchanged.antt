@@ -14,17 +14,18 @@ use Rattle.md_nbd.specs.NbdRequests.{CMD_FLUSH, payload_of, request_bytes}
 use Rattle.md_nbd.specs.NbdTasks.{task_of}
 use Rattle.md_nbd.specs.SimpleReplies.{error_reply, success_reply}
 use Rattle.md_nbd.specs.declared.server.store.Store.{Ghosts as Stores}
-use Rattle.md_commands.specs.declared.source.Source.{Ghosts as Sources}
-use Rattle.md_examine.specs.declared.sink.Sink.{Ghosts as Sinks}
+use Rattle.md_streams.specs.declared.source.Source.{Ghosts as Sources}
+use Rattle.md_streams.specs.declared.sink.Sink.{Ghosts as Sinks}
 use Rattle.md_nbd.specs.declared.server.transmission.Gone.{Gone}
 use Rattle.md_nbd.specs.declared.server.transmission.Gone.TheVariants as gone
-use Rattle.md_nbd.specs.declared.server.transmission.StreamFault.{StreamFault}
-use Rattle.md_nbd.specs.declared.server.transmission.StreamFault.TheVariants as fault
+use Rattle.md_nbd.specs.declared.server.session_fault.SessionFault.{SessionFault}
+use Rattle.md_nbd.specs.declared.server.session_fault.SessionFault.TheVariants as fault
 use Rattle.md_nbd.specs.Server.Exchanges.{AnswersFor, AnswersInTurn, AnswersRequest, DoesTask, Exchange, HasRested, IsWhyOf, asked_count, exchange_bytes, reply_of}
 use Rattle.md_nbd.specs.Server.RequestsTaken.{FailsToTake, GivesNone, TakesRequest}
 use Rattle.md_nbd.specs.Server.Told.{AnswersTask, FailsToTell, IsAskedToGo, IsToldOfRefusal, IsToldOfRefusals, RestsIfSilent, TellsTask}
 use Rattle.md_nbd.specs.Server.Transmission.{BreaksOff, BreaksOffTold, GivesDisconnect, HasAnswered, HasFailed, HasGone, IsToldOfLast, Transmits, TransmitsTold}
-use Rattle.md_nbd.proofs.ServerLemmas.Pieces.{gives_both, gives_nothing}
+use Rattle.md_streams.proofs.Fronts.{gives_both}
+use Rattle.md_nbd.proofs.ServerLemmas.Pieces.{gives_nothing}
 use Rattle.md_nbd.proofs.ServerLemmas.ToldReplies.{puts_both, puts_nothing}
 
 one_more : (f : Exchange → List ℕ) (xs : List Exchange) (x : Exchange) → flat_map f (xs ++ x ∷ []) ≡ flat_map f xs ++ f x
@@ -163,17 +164,17 @@ module _ {S M I O : Type 0} (s : Stores S M) (i : Sources I) (o : Sinks O) (e : 
   pub all_answered : (count : ℕ) (old mid : S × M) (from at : I) (was amid : O) → count ≡ 2 ^ 64 - 1 → SoManyAnswered s i o e w count old mid from at was amid → TransmitsTold s i o e w old mid from at was amid gone.Exhausted
   all_answered count old mid from at was amid full h = (record { exchanges = h.exchanges; at = at; answered = h.answered; gone = (h.count_is ∙ full, refl) }, h.told)
 
-  not_taken : (mid : S × M) (at to : I) (amid : O) (why : StreamFault) → FailsToTake i to why → HasFailed s i o e mid mid at to amid amid why
+  not_taken : (mid : S × M) (at to : I) (amid : O) (why : SessionFault) → FailsToTake i to why → HasFailed s i o e mid mid at to amid amid why
   not_taken mid at to amid fault.Source h = (h, refl, refl)
   not_taken mid at to amid fault.NoMemory h = (refl, refl)
   not_taken mid at to amid fault.Sink h = absurd h
 
-  none_last : (mid : S × M) (at to : I) (amid : O) (why : StreamFault) (h : FailsToTake i to why) → IsToldOfLast s i o e w mid mid at to amid amid why (not_taken mid at to amid why h)
+  none_last : (mid : S × M) (at to : I) (amid : O) (why : SessionFault) (h : FailsToTake i to why) → IsToldOfLast s i o e w mid mid at to amid amid why (not_taken mid at to amid why h)
   none_last mid at to amid fault.Source h = tt
   none_last mid at to amid fault.NoMemory h = tt
   none_last mid at to amid fault.Sink h = absurd h
 
-  pub taking_failed : (count : ℕ) (old mid : S × M) (from at to : I) (was amid : O) (why : StreamFault) → SoManyAnswered s i o e w count old mid from at was amid → FailsToTake i to why
+  pub taking_failed : (count : ℕ) (old mid : S × M) (from at to : I) (was amid : O) (why : SessionFault) → SoManyAnswered s i o e w count old mid from at was amid → FailsToTake i to why
       → BreaksOffTold s i o e w old mid from to was amid why
   taking_failed count old mid from at to was amid why h failed =
       (record { exchanges = h.exchanges; mid = mid; at = at; before = amid; answered = h.answered; failed = not_taken mid at to amid why failed }, h.told, none_last mid at to amid why failed)

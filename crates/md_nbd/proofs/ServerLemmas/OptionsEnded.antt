@@ -2,11 +2,11 @@
 use Rattle.std.proofs.Common.{◌≡◌, ◌≢◌, ℕ, ◌<◌, ◌≤◌, List, ◌++◌, length, take, refl, sym, ap, ◌∙◌, arith, inl, inr}
 use Rattle.std.proofs.lemmas.List.{length-take-le}
 use Rattle.md_nbd.specs.Options.{longest_body, option_bytes, option_head}
-use Rattle.md_commands.specs.declared.source.Source.{Ghosts as Sources}
-use Rattle.md_commands.specs.Source.{Gives}
-use Rattle.md_nbd.specs.Server.FrontFilled.{FillsFrontOf}
+use Rattle.md_streams.specs.declared.source.Source.{Ghosts as Sources}
+use Rattle.md_streams.specs.Source.{Gives}
+use Rattle.md_streams.specs.FrontFilled.{FillsFrontOf}
 use Rattle.md_nbd.specs.Server.OptionsTaken.{EndsWithinOption, GivesNoOption, GivesTooLongOption, TakesOption}
-use Rattle.md_nbd.proofs.ServerLemmas.Pieces.{gives_both}
+use Rattle.md_streams.proofs.Fronts.{gives_both}
 use Rattle.md_nbd.proofs.ServerLemmas.RequestsEnded.{head_given}
 
 pub ends_in_option_head : {I : Type 0} (i : Sources I) (old new : I) (buf : List ℕ) (n : ℕ) → n ≢ 0 → n < 16 → length buf ≡ 16 → FillsFrontOf i old new buf n → EndsWithinOption i old new

@@ -6,15 +6,16 @@ use Rattle.md_nbd.specs.declared.export.Export.{Export}
 use Rattle.md_nbd.specs.declared.haggling.Next.{Next}
 use Rattle.md_nbd.specs.declared.haggling.Next.TheVariants as after
 use Rattle.md_nbd.specs.Haggling.{Asked, answer_to_asked, asked_bytes, next_after_asked}
-use Rattle.md_commands.specs.declared.source.Source.{Ghosts as Sources}
-use Rattle.md_examine.specs.declared.sink.Sink.{Ghosts as Sinks}
+use Rattle.md_streams.specs.declared.source.Source.{Ghosts as Sources}
+use Rattle.md_streams.specs.declared.sink.Sink.{Ghosts as Sinks}
 use Rattle.md_nbd.specs.declared.server.agreement.Haggled.{Haggled}
 use Rattle.md_nbd.specs.declared.server.agreement.Haggled.TheVariants as haggled
-use Rattle.md_nbd.specs.declared.server.agreement.HaggleFault.{HaggleFault}
-use Rattle.md_nbd.specs.declared.server.agreement.HaggleFault.TheVariants as fault
+use Rattle.md_nbd.specs.declared.server.session_fault.SessionFault.{SessionFault}
+use Rattle.md_nbd.specs.declared.server.session_fault.SessionFault.TheVariants as fault
 use Rattle.md_nbd.specs.Server.OptionsTaken.{GivesOptionNone, TakesOption}
 use Rattle.md_nbd.specs.Server.OptionsAnswered.{AnswersLast, BreaksHaggling, EndsHaggling, FailsHaggling, FailsToAnswer, Haggles, HasHaggled, PutsAnswer}
-use Rattle.md_nbd.proofs.ServerLemmas.Pieces.{gives_both, gives_nothing}
+use Rattle.md_streams.proofs.Fronts.{gives_both}
+use Rattle.md_nbd.proofs.ServerLemmas.Pieces.{gives_nothing}
 use Rattle.md_nbd.proofs.ServerLemmas.ToldReplies.{puts_both, puts_nothing}
 
 one_more : (f : Asked → List ℕ) (xs : List Asked) (x : Asked) → flat_map f (xs ++ x ∷ []) ≡ flat_map f xs ++ f x
@@ -94,12 +95,12 @@ pub no_source : {I O : Type 0} (i : Sources I) (o : Sinks O) (e : Export) (z : B
     → SoManyOptions i o e z count from at was then → i.failed to ≡ true → BreaksHaggling i o e z from to was then fault.Source
 no_source i o e z count from at to was then h failed = record { asked = h.asked; at = at; before = then; answered = h.answered; fails = (failed, refl) }
 
-not_answered : {I O : Type 0} (i : Sources I) (o : Sinks O) (at to : I) (then now : O) (option size : ℕ) (buf : List ℕ) (why : HaggleFault) → TakesOption i at to buf (option, size) → FailsToAnswer o then now why → FailsHaggling i o at to then now why
+not_answered : {I O : Type 0} (i : Sources I) (o : Sinks O) (at to : I) (then now : O) (option size : ℕ) (buf : List ℕ) (why : SessionFault) → TakesOption i at to buf (option, size) → FailsToAnswer o then now why → FailsHaggling i o at to then now why
 not_answered i o at to then now option size buf fault.Source t f = absurd f
 not_answered i o at to then now option size buf fault.Sink t f = record { last = asked_as option size buf; gives = t.gives; fails = f }
 not_answered i o at to then now option size buf fault.NoMemory t f = record { last = asked_as option size buf; gives = t.gives; fails = f }
 
-pub no_answer : {I O : Type 0} (i : Sources I) (o : Sinks O) (e : Export) (z : Bool) (count : ℕ) (from at to : I) (was then now : O) (option size : ℕ) (buf : List ℕ) (why : HaggleFault)
+pub no_answer : {I O : Type 0} (i : Sources I) (o : Sinks O) (e : Export) (z : Bool) (count : ℕ) (from at to : I) (was then now : O) (option size : ℕ) (buf : List ℕ) (why : SessionFault)
     → SoManyOptions i o e z count from at was then → TakesOption i at to buf (option, size) → FailsToAnswer o then now why → BreaksHaggling i o e z from to was now why
 no_answer i o e z count from at to was then now option size buf why h t f =
     record { asked = h.asked; at = at; before = then; answered = h.answered; fails = not_answered i o at to then now option size buf why t f }

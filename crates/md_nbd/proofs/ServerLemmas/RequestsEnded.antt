@@ -4,11 +4,12 @@ use Rattle.std.proofs.lemmas.List.{length-take-le}
 use Rattle.md_nbd.specs.declared.request.Request.{Request}
 use Rattle.md_nbd.specs.Export.{most_bytes}
 use Rattle.md_nbd.specs.NbdRequests.{payload_of, request_bytes}
-use Rattle.md_commands.specs.declared.source.Source.{Ghosts as Sources}
-use Rattle.md_commands.specs.Source.{Gives}
-use Rattle.md_nbd.specs.Server.FrontFilled.{FillsFrontOf}
+use Rattle.md_streams.specs.declared.source.Source.{Ghosts as Sources}
+use Rattle.md_streams.specs.Source.{Gives}
+use Rattle.md_streams.specs.FrontFilled.{FillsFrontOf}
 use Rattle.md_nbd.specs.Server.RequestsTaken.{EndsThere, EndsWithin, GivesNoRequest, GivesTooLong, TakesRequest}
-use Rattle.md_nbd.proofs.ServerLemmas.Pieces.{gives_both, gives_whole}
+use Rattle.md_streams.proofs.Fronts.{gives_both}
+use Rattle.md_nbd.proofs.ServerLemmas.Pieces.{gives_whole}
 
 pub ends_there : {I : Type 0} (i : Sources I) (old new : I) (buf : List ℕ) (n : ℕ) → n ≡ 0 → 0 < length buf → FillsFrontOf i old new buf n → EndsThere i old new
 ends_there i old new buf n none room f =

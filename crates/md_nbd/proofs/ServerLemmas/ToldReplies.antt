@@ -11,9 +11,9 @@ use Rattle.md_nbd.specs.declared.request.Request.{Request}
 use Rattle.md_nbd.specs.declared.server.refusal.RefusedRequest.{RefusedRequest}
 use Rattle.md_nbd.specs.declared.server.refusal.RequestFault.{RequestFault}
 use Rattle.md_nbd.specs.declared.server.store.Store.{Ghosts as Stores}
-use Rattle.md_examine.specs.declared.sink.Sink.{Ghosts as Sinks}
-use Rattle.md_commands.specs.Output.{PutsOut}
-use Rattle.md_examine.specs.Sink.{Puts}
+use Rattle.md_streams.specs.declared.sink.Sink.{Ghosts as Sinks}
+use Rattle.md_streams.specs.Putting.{PutsOut}
+use Rattle.md_streams.specs.Sink.{Puts}
 use Rattle.md_nbd.specs.NbdTasks.{task_of}
 use Rattle.md_nbd.specs.Server.Exchanges.{IsWhyOf}
 use Rattle.md_nbd.specs.Server.Refusals.{task_fault}

@@ -5,15 +5,15 @@ use Rattle.md_nbd.specs.declared.export.Export.{Export}
 use Rattle.md_nbd.specs.declared.haggling.Next.{Next}
 use Rattle.md_nbd.specs.declared.haggling.Next.TheVariants as after
 use Rattle.md_nbd.specs.Haggling.{Asked, answer_to_asked, asked_bytes, next_after, next_after_asked, option_answer}
-use Rattle.md_commands.specs.declared.source.Source.{Ghosts as Sources}
-use Rattle.md_examine.specs.declared.sink.Sink.{Ghosts as Sinks}
+use Rattle.md_streams.specs.declared.source.Source.{Ghosts as Sources}
+use Rattle.md_streams.specs.declared.sink.Sink.{Ghosts as Sinks}
 use Rattle.md_nbd.specs.declared.server.agreement.Haggled.{Haggled}
 use Rattle.md_nbd.specs.declared.server.agreement.Haggled.TheVariants as haggled
-use Rattle.md_nbd.specs.declared.server.agreement.HaggleFault.{HaggleFault}
-use Rattle.md_nbd.specs.declared.server.agreement.HaggleFault.TheVariants as fault
-use Rattle.md_commands.specs.Source.{Gives}
-use Rattle.md_commands.specs.Output.{PutsOut}
-use Rattle.md_examine.specs.Sink.{Puts}
+use Rattle.md_nbd.specs.declared.server.session_fault.SessionFault.{SessionFault}
+use Rattle.md_nbd.specs.declared.server.session_fault.SessionFault.TheVariants as fault
+use Rattle.md_streams.specs.Source.{Gives}
+use Rattle.md_streams.specs.Putting.{PutsOut}
+use Rattle.md_streams.specs.Sink.{Puts}
 use Rattle.md_nbd.specs.Server.RequestsTaken.{EndsThere}
 use Rattle.md_nbd.specs.Server.OptionsTaken.{EndsWithinOption, GivesNoOption, GivesTooLongOption}
 
@@ -24,7 +24,7 @@ pub record PutsAnswer {O : Type 0} (o : Sinks O) (e : Export) (no_zeroes : Bool)
   pub comes : next ≡ next_after option body
 
 -- The sink has failed, or nothing was put out for lack of memory.
-abbrev pub FailsToAnswer : {O : Type 0} → Sinks O → O → O → HaggleFault → Type 0
+abbrev pub FailsToAnswer : {O : Type 0} → Sinks O → O → O → SessionFault → Type 0
 FailsToAnswer o was now fault.Source = ⊥
 FailsToAnswer o was now fault.Sink = o.failed now ≡ true
 FailsToAnswer o was now fault.NoMemory = now ≡ was
@@ -65,19 +65,19 @@ pub record Haggles {I O : Type 0} (i : Sources I) (o : Sinks O) (e : Export) (no
   pub ends : EndsHaggling i o e no_zeroes (length asked) at to before now why
 
 -- An option came that was not answered, or not surely.
-pub record IsUnanswered {I O : Type 0} (i : Sources I) (o : Sinks O) (at to : I) (before now : O) (why : HaggleFault) : Type 0 where
+pub record IsUnanswered {I O : Type 0} (i : Sources I) (o : Sinks O) (at to : I) (before now : O) (why : SessionFault) : Type 0 where
   pub last : Asked
   pub gives : Gives i.remaining i.failed at to (asked_bytes last)
   pub fails : FailsToAnswer o before now why
 
 -- The stream that is named has failed, or there was no memory for an answer.
-abbrev pub FailsHaggling : {I O : Type 0} → Sources I → Sinks O → I → I → O → O → HaggleFault → Type 0
+abbrev pub FailsHaggling : {I O : Type 0} → Sources I → Sinks O → I → I → O → O → SessionFault → Type 0
 FailsHaggling i o at to before now fault.Source = (i.failed to ≡ true) × (now ≡ before)
 FailsHaggling i o at to before now fault.Sink = IsUnanswered i o at to before now fault.Sink
 FailsHaggling i o at to before now fault.NoMemory = IsUnanswered i o at to before now fault.NoMemory
 
 -- Options came and were answered, and then a stream failed, or memory.
-pub record BreaksHaggling {I O : Type 0} (i : Sources I) (o : Sinks O) (e : Export) (no_zeroes : Bool) (from to : I) (was now : O) (why : HaggleFault) : Type 0 where
+pub record BreaksHaggling {I O : Type 0} (i : Sources I) (o : Sinks O) (e : Export) (no_zeroes : Bool) (from to : I) (was now : O) (why : SessionFault) : Type 0 where
   pub asked : List Asked
   pub at : I
   pub before : O

@@ -2,10 +2,10 @@
 use Rattle.std.specs.Prelude.{◌≡◌, ◌⊎◌, ℕ, ◌<◌, ◌≤◌, List, ◌++◌, length, take, Result, MatchResult}
 use Rattle.std.specs.Io.KnownBytes.{IsAtEnd}
 use Rattle.md_nbd.specs.Options.{longest_body, option_bytes, option_head}
-use Rattle.md_commands.specs.declared.source.Source.{Ghosts as Sources}
+use Rattle.md_streams.specs.declared.source.Source.{Ghosts as Sources}
 use Rattle.md_nbd.specs.declared.server.agreement.Haggled.{Haggled}
 use Rattle.md_nbd.specs.declared.server.agreement.Haggled.TheVariants as haggled
-use Rattle.md_commands.specs.Source.{Gives}
+use Rattle.md_streams.specs.Source.{Gives}
 use Rattle.md_nbd.specs.Server.RequestsTaken.{EndsThere}
 
 -- An option came, by its number and the length of its body, and the body stands at the front of the buffer.

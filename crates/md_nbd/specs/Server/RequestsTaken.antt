@@ -4,12 +4,12 @@ use Rattle.std.specs.Io.KnownBytes.{IsAtEnd}
 use Rattle.md_nbd.specs.declared.request.Request.{Request}
 use Rattle.md_nbd.specs.Export.{most_bytes}
 use Rattle.md_nbd.specs.NbdRequests.{payload_of, request_bytes}
-use Rattle.md_commands.specs.declared.source.Source.{Ghosts as Sources}
+use Rattle.md_streams.specs.declared.source.Source.{Ghosts as Sources}
 use Rattle.md_nbd.specs.declared.server.transmission.Gone.{Gone}
 use Rattle.md_nbd.specs.declared.server.transmission.Gone.TheVariants as gone
-use Rattle.md_nbd.specs.declared.server.transmission.StreamFault.{StreamFault}
-use Rattle.md_nbd.specs.declared.server.transmission.StreamFault.TheVariants as fault
-use Rattle.md_commands.specs.Source.{Gives}
+use Rattle.md_nbd.specs.declared.server.session_fault.SessionFault.{SessionFault}
+use Rattle.md_nbd.specs.declared.server.session_fault.SessionFault.TheVariants as fault
+use Rattle.md_streams.specs.Source.{Gives}
 
 -- A request came, and the bytes that it writes stand at the front of the buffer.
 pub record TakesRequest {I : Type 0} (i : Sources I) (old new : I) (buf : List ℕ) (r : Request) : Type 0 where
@@ -57,7 +57,7 @@ GivesNone i old new gone.Disconnected = ⊥
 GivesNone i old new gone.Exhausted = ⊥
 
 -- The source has failed, or there was no memory for what the request reads or writes.
-abbrev pub FailsToTake : {I : Type 0} → Sources I → I → StreamFault → Type 0
+abbrev pub FailsToTake : {I : Type 0} → Sources I → I → SessionFault → Type 0
 FailsToTake i new fault.Source = i.failed new ≡ true
 FailsToTake i new fault.NoMemory = Unit {0}
 FailsToTake i new fault.Sink = ⊥

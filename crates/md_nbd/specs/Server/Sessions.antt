@@ -4,24 +4,20 @@ use Rattle.std.specs.Prelude.{◌≡◌, ◌≢◌, ◌⊎◌, ℕ, ◌<◌, Boo
 use Rattle.std.specs.Int.{w32, to_be_bytes}
 use Rattle.std.proofs.Common.{inl, inr}
 use Rattle.std.specs.Io.KnownBytes.{IsAtEnd}
-use Rattle.md_examine.specs.declared.sink.Sink.{Ghosts as Sinks}
-use Rattle.md_commands.specs.Output.{PutsOut}
-use Rattle.md_commands.specs.declared.source.Source.{Ghosts as Sources}
-use Rattle.md_commands.specs.Source.{Gives}
+use Rattle.md_streams.specs.declared.sink.Sink.{Ghosts as Sinks}
+use Rattle.md_streams.specs.Putting.{PutsOut}
+use Rattle.md_streams.specs.declared.source.Source.{Ghosts as Sources}
+use Rattle.md_streams.specs.Source.{Gives}
 use Rattle.md_nbd.specs.declared.export.Export.{Export}
-use Rattle.md_nbd.specs.declared.server.agreement.HaggleFault.{HaggleFault}
-use Rattle.md_nbd.specs.declared.server.agreement.HaggleFault.TheVariants as haggling
+use Rattle.md_nbd.specs.declared.server.session_fault.SessionFault.{SessionFault}
 use Rattle.md_nbd.specs.declared.server.agreement.Haggled.{Haggled}
 use Rattle.md_nbd.specs.declared.server.agreement.Haggled.TheVariants as haggled
 use Rattle.md_nbd.specs.declared.server.session.SessionEnd.{SessionEnd}
 use Rattle.md_nbd.specs.declared.server.session.SessionEnd.TheVariants.{NoFlags, UnknownFlags, Unagreed, Gone}
-use Rattle.md_nbd.specs.declared.server.session.SessionFault.{SessionFault}
-use Rattle.md_nbd.specs.declared.server.session.SessionFault.TheVariants as fault
+use Rattle.md_nbd.specs.declared.server.session_fault.SessionFault.TheVariants as fault
 use Rattle.md_nbd.specs.declared.server.store.Store.{Ghosts as Stores}
 use Rattle.md_nbd.specs.declared.server.transmission.Gone.{Gone as GoneWhy}
 use Rattle.md_nbd.specs.declared.server.transmission.Gone.TheVariants as gone
-use Rattle.md_nbd.specs.declared.server.transmission.StreamFault.{StreamFault}
-use Rattle.md_nbd.specs.declared.server.transmission.StreamFault.TheVariants as stream
 use Rattle.md_nbd.specs.Handshake.{greeting_bytes, no_zeroes_of}
 use Rattle.md_nbd.specs.Server.OptionsAnswered.{BreaksHaggling, Haggles}
 use Rattle.md_nbd.specs.Server.Transmission.{BreaksOff, IsToldOfLast, Transmits}
@@ -35,16 +31,6 @@ is_orderly (Unagreed haggled.Ended) = true
 is_orderly (Gone gone.Disconnected) = true
 is_orderly (Gone gone.Ended) = true
 is_orderly end = false
-
-abbrev pub of_haggling : HaggleFault → SessionFault
-of_haggling haggling.Source = fault.Source
-of_haggling haggling.Sink = fault.Sink
-of_haggling haggling.NoMemory = fault.NoMemory
-
-abbrev pub of_stream : StreamFault → SessionFault
-of_stream stream.Source = fault.Source
-of_stream stream.Sink = fault.Sink
-of_stream stream.NoMemory = fault.NoMemory
 
 -- ---- the greeting
 module _ {I O : Type 0} (i : Sources I) (o : Sinks O) (from to : I) (was now : O) where
@@ -116,23 +102,19 @@ module _ {S M I O : Type 0} (s : Stores S M) (i : Sources I) (o : Sinks O) (e : 
 
   -- A stream failed, or memory, while options were answered.
   pub record BreaksAtOptions (f : SessionFault) : Type 0 where
-    pub why : HaggleFault
-    pub is : f ≡ of_haggling why
     pub no_zeroes : Bool
     pub flagged : I
     pub greeted : O
     pub greets : TakesFlags i o from flagged was greeted (Some no_zeroes)
-    pub breaks : BreaksHaggling i o e no_zeroes flagged to greeted now why
+    pub breaks : BreaksHaggling i o e no_zeroes flagged to greeted now f
     pub store : new ≡ old
 
   -- A stream failed while requests were answered.
   pub record BreaksAtRequests (f : SessionFault) : Type 0 where
-    pub why : StreamFault
-    pub is : f ≡ of_stream why
     pub ready : I
     pub answered : O
     pub agrees : GetsExport i o e from ready was answered
-    pub breaks : BreaksOff s i o e old new ready to answered now why
+    pub breaks : BreaksOff s i o e old new ready to answered now f
 
   pub record BreaksAtGreeting (f : SessionFault) : Type 0 where
     pub fails : FailsToGreet i o from to was now f
@@ -157,7 +139,7 @@ module _ {S M I O : Type 0} (s : Stores S M) (i : Sources I) (o : Sinks O) (e : 
     IsToldBeforeFault f (inr (inl h)) = Unit {0}
     IsToldBeforeFault f (inr (inr h)) =
         IsToldOfRefusals has_refused h.breaks.exchanges
-        × IsToldOfLast s i o e has_refused h.breaks.mid new h.breaks.at to h.breaks.before now h.why h.breaks.failed
+        × IsToldOfLast s i o e has_refused h.breaks.mid new h.breaks.at to h.breaks.before now f h.breaks.failed
 
     -- A session ends so, and the watch was told of what was refused in it.
     abbrev pub EndsToldSession : SessionEnd → Type 0

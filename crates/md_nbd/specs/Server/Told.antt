@@ -10,8 +10,8 @@ use Rattle.md_nbd.specs.declared.server.refusal.RefusedRequest.{RefusedRequest}
 use Rattle.md_nbd.specs.NbdRequests.{payload_of}
 use Rattle.md_nbd.specs.NbdTasks.{task_of}
 use Rattle.md_nbd.specs.declared.server.store.Store.{Ghosts as Stores}
-use Rattle.md_examine.specs.declared.sink.Sink.{Ghosts as Sinks}
-use Rattle.md_commands.specs.Output.{PutsOut}
+use Rattle.md_streams.specs.declared.sink.Sink.{Ghosts as Sinks}
+use Rattle.md_streams.specs.Putting.{PutsOut}
 use Rattle.md_nbd.specs.Server.Exchanges.{AnswersFor, DoesTask, Exchange, HasRested, IsWhyOf}
 use Rattle.md_nbd.specs.Server.Refusals.{refused_for}
 

@@ -7,14 +7,14 @@ use Rattle.md_nbd.specs.declared.task.Task.TheVariants.{Disconnect}
 use Rattle.md_nbd.specs.NbdRequests.{request_bytes}
 use Rattle.md_nbd.specs.NbdTasks.{task_of}
 use Rattle.md_nbd.specs.declared.server.store.Store.{Ghosts as Stores}
-use Rattle.md_commands.specs.declared.source.Source.{Ghosts as Sources}
-use Rattle.md_examine.specs.declared.sink.Sink.{Ghosts as Sinks}
+use Rattle.md_streams.specs.declared.source.Source.{Ghosts as Sources}
+use Rattle.md_streams.specs.declared.sink.Sink.{Ghosts as Sinks}
 use Rattle.md_nbd.specs.declared.server.transmission.Gone.{Gone}
 use Rattle.md_nbd.specs.declared.server.transmission.Gone.TheVariants as gone
-use Rattle.md_nbd.specs.declared.server.transmission.StreamFault.{StreamFault}
-use Rattle.md_nbd.specs.declared.server.transmission.StreamFault.TheVariants as fault
-use Rattle.md_commands.specs.Source.{Gives}
-use Rattle.md_examine.specs.Sink.{Puts}
+use Rattle.md_nbd.specs.declared.server.session_fault.SessionFault.{SessionFault}
+use Rattle.md_nbd.specs.declared.server.session_fault.SessionFault.TheVariants as fault
+use Rattle.md_streams.specs.Source.{Gives}
+use Rattle.md_streams.specs.Sink.{Puts}
 use Rattle.md_nbd.specs.Server.Exchanges.{AnswersInTurn, AnswersRequest, Exchange, asked_count, reply_of, exchange_bytes}
 use Rattle.md_nbd.specs.Server.RequestsTaken.{EndsThere, EndsWithin, GivesNoRequest, GivesTooLong}
 use Rattle.md_nbd.specs.Server.Told.{IsToldOfRefusal, IsToldOfRefusals}
@@ -59,13 +59,13 @@ pub record IsUntold {S M I O : Type 0} (s : Stores S M) (i : Sources I) (o : Sin
   pub failed : o.failed now ≡ true
 
 -- The stream that is named has failed, or there is no memory for a request. Unless the sink has failed, nothing more was done.
-abbrev pub HasFailed : {S M I O : Type 0} → Stores S M → Sources I → Sinks O → Export → S × M → S × M → I → I → O → O → StreamFault → Type 0
+abbrev pub HasFailed : {S M I O : Type 0} → Stores S M → Sources I → Sinks O → Export → S × M → S × M → I → I → O → O → SessionFault → Type 0
 HasFailed s i o e mid new at to then now fault.Source = (i.failed to ≡ true) × (new ≡ mid) × (now ≡ then)
 HasFailed s i o e mid new at to then now fault.NoMemory = (new ≡ mid) × (now ≡ then)
 HasFailed s i o e mid new at to then now fault.Sink = IsUntold s i o e mid new at to now
 
 -- Requests came and were answered, and then a stream failed, or memory.
-pub record BreaksOff {S M I O : Type 0} (s : Stores S M) (i : Sources I) (o : Sinks O) (e : Export) (old new : S × M) (from to : I) (was now : O) (why : StreamFault) : Type 0 where
+pub record BreaksOff {S M I O : Type 0} (s : Stores S M) (i : Sources I) (o : Sinks O) (e : Export) (old new : S × M) (from to : I) (was now : O) (why : SessionFault) : Type 0 where
   pub exchanges : List Exchange
   pub mid : S × M
   pub at : I
@@ -81,13 +81,13 @@ module _ {S M I O : Type 0} (s : Stores S M) (i : Sources I) (o : Sinks O) (e : 
       (t : Transmits s i o e old new from to was now why) × IsToldOfRefusals has_refused t.exchanges
 
   -- Also of the last one, where its reply was not put out.
-  abbrev pub IsToldOfLast : (mid new : S × M) (at to : I) (then now : O) (why : StreamFault) → HasFailed s i o e mid new at to then now why
+  abbrev pub IsToldOfLast : (mid new : S × M) (at to : I) (then now : O) (why : SessionFault) → HasFailed s i o e mid new at to then now why
       → Type 0
   IsToldOfLast mid new at to then now fault.Source h = Unit {0}
   IsToldOfLast mid new at to then now fault.NoMemory h = Unit {0}
   IsToldOfLast mid new at to then now fault.Sink h = IsToldOfRefusal has_refused h.last.request h.last.fault
 
-  abbrev pub BreaksOffTold : S × M → S × M → I → I → O → O → StreamFault → Type 0
+  abbrev pub BreaksOffTold : S × M → S × M → I → I → O → O → SessionFault → Type 0
   BreaksOffTold old new from to was now why =
       (b : BreaksOff s i o e old new from to was now why) × IsToldOfRefusals has_refused b.exchanges
       × IsToldOfLast b.mid new b.at to b.before now why b.failed

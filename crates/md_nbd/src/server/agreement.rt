@@ -6,8 +6,8 @@ use crate::export::Export;
 use crate::haggling::{Next, answer_option};
 use crate::server::option_taken::take_option;
 use crate::server::putting::put;
-use md_commands::Source;
-use md_examine::{Sink, SinkFault};
+use crate::server::session_fault::SessionFault;
+use md_streams::{Sink, SinkFault, Source};
 use std::alloc::Global;
 
 /// Why no more options are answered.
@@ -29,16 +29,6 @@ pub enum Haggled {
     Exhausted,
 }
 
-/// Why options are not answered any more, though they may come.
-#[derive(Clone, Copy, Debug, PartialEq, Eq)]
-pub enum HaggleFault {
-    /// The source has failed.
-    Source,
-    /// The sink has failed.
-    Sink,
-    NoMemory,
-}
-
 // Answers an option, and says what comes next.
 fn put_answer<O: Sink>(
     alloc: Global,
@@ -47,18 +37,18 @@ fn put_answer<O: Sink>(
     option: u32,
     body: &[u8],
     out: &mut O,
-) -> Result<Next, HaggleFault>
+) -> Result<Next, SessionFault>
     ensures { MatchResult result
         (PutsAnswer O.Sink export.now no_zeroes option body.now out.old out.new)
         (FailsToAnswer O.Sink out.old out.new) }
 {
     let mut reply = Vec::new(alloc);
     let Ok(next) = answer_option(&mut reply, export, no_zeroes, option, body) else {
-        return Err(HaggleFault::NoMemory);
+        return Err(SessionFault::NoMemory);
     };
     match put(out, reply.as_slice()) {
         Ok(()) => Ok(next),
-        Err(SinkFault) => Err(HaggleFault::Sink),
+        Err(SinkFault) => Err(SessionFault::Sink),
     }
 }
 
@@ -73,7 +63,7 @@ pub fn haggle<I: Source, O: Sink>(
     buf: &mut [u8],
     input: &mut I,
     out: &mut O,
-) -> Result<Haggled, HaggleFault>
+) -> Result<Haggled, SessionFault>
     requires { 65536 ≤ length buf.old }
     ensures { MatchResult result
         (Haggles I.Source O.Sink export.now no_zeroes input.old input.new out.old out.new)
@@ -81,7 +71,7 @@ pub fn haggle<I: Source, O: Sink>(
 {
     for answered in 0..u64::MAX {
         let Ok(taken) = take_option(input, buf) else {
-            return Err(HaggleFault::Source);
+            return Err(SessionFault::Source);
         };
         let (option, size) = match taken {
             Ok(head) => head,

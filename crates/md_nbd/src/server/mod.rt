@@ -5,28 +5,31 @@
 //! are its two parts. None waits but in the source and the sink, and none takes memory by a length that a client names.
 //!
 //! ```
-//! let end = serve_client(alloc, &export, &mut store, &mut mirror, &watch, &mut buf, &mut input, &mut out)?;
+//! let service = Service { export: &export, watch: &watch };
+//! let end = serve_client(alloc, &service, &mut store, &mut mirror, &mut buf, &mut input, &mut out)?;
 //! ```
 
 mod agreement;
 mod client_watch;
-mod filling_front;
 mod option_taken;
 mod putting;
 mod refusal;
 mod refusal_line;
 mod request_taken;
+mod service;
 mod session;
+mod session_fault;
 mod store;
 mod tasks_done;
 mod transmission;
 
-pub use agreement::{HaggleFault, Haggled, haggle};
+pub use agreement::{Haggled, haggle};
 pub use client_watch::ClientWatch;
-pub use filling_front::fill_front;
 pub use putting::put;
 pub use refusal::{RefusedRequest, RequestFault};
 pub use refusal_line::refused_line;
-pub use session::{SessionEnd, SessionFault, serve_client};
+pub use service::Service;
+pub use session::{SessionEnd, serve_client};
+pub use session_fault::SessionFault;
 pub use store::{Store, StoreFault};
-pub use transmission::{Gone, StreamFault, answer_requests};
+pub use transmission::{Gone, answer_requests};

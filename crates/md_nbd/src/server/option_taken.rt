@@ -4,8 +4,7 @@ ghost use Rattle.md_nbd.specs.Server.OptionsTaken.{TakesOptionOrNone};
 
 use crate::option_head::{LONGEST_BODY, decode_option_head};
 use crate::server::agreement::Haggled;
-use crate::server::filling_front::fill_front;
-use md_commands::{Source, SourceFault};
+use md_streams::{Source, SourceFault, fill_front};
 
 /// Takes the next option, its body into the front of `buf`: its number, and how long the body is; or says why there is none.
 pub(crate) fn take_option<I: Source>(

@@ -1,8 +1,8 @@
 // Bytes are put out.
 ghost use Rattle.std.specs.Prelude.{◌≡◌, MatchResult, true};
-ghost use Rattle.md_commands.specs.Output.{PutsOut};
+ghost use Rattle.md_streams.specs.Putting.{PutsOut};
 
-use md_examine::{Sink, SinkFault};
+use md_streams::{Sink, SinkFault};
 
 /// Puts out these bytes, and passes on what the sink holds back.
 pub fn put<O: Sink>(out: &mut O, bytes: &[u8]) -> Result<(), SinkFault>

@@ -1,13 +1,13 @@
 // The line that says which request was refused, and why. No line takes memory.
 ghost use Rattle.std.specs.Prelude.{◌≡◌, ◌^◌, ◌<◌};
-ghost use Rattle.md_examine.specs.Sink.{PutsOrFails};
+ghost use Rattle.md_streams.specs.Sink.{PutsOrFails};
 ghost use Rattle.md_nbd.specs.Server.Refusals.{first_to_last_text, bytes_text, command_text, lacking_text, range_text, reason_text, refused_request_text, request_text, sector_range_text, store_text, transfer_text};
 
 use crate::request::{CMD_FLUSH, CMD_READ, CMD_WRITE, Request};
 use crate::server::refusal::{RefusedRequest, RequestFault};
 use crate::server::store::StoreFault;
 use crate::task::has_whole_sectors;
-use md_examine::{Sink, SinkFault, number_after};
+use md_streams::{Sink, SinkFault, number_after};
 
 const CMD_TRIM: u16 = 4;
 
@@ -39,7 +39,7 @@ fn put_request<S: Sink>(out: &mut S, request: &Request) -> Result<(), SinkFault>
     }
 }
 
-#[tactic(auto, unfolding(crate::specs::Server::Refusals::transfer_text), using(md_examine::proofs::Puts::puts_then))]
+#[tactic(auto, unfolding(crate::specs::Server::Refusals::transfer_text), using(md_streams::proofs::Puts::puts_then))]
 fn put_transfer<S: Sink>(out: &mut S, request: &Request) -> Result<(), SinkFault>
     ensures { PutsOrFails S.contents S.failed out.old out.new (transfer_text request.now) result }
 {
@@ -87,7 +87,7 @@ fn put_sectors<S: Sink>(out: &mut S, first: u64, count: u32) -> Result<(), SinkF
     }
 }
 
-#[tactic(auto, unfolding(crate::specs::Server::Refusals::first_to_last_text), using(md_examine::proofs::Puts::puts_then))]
+#[tactic(auto, unfolding(crate::specs::Server::Refusals::first_to_last_text), using(md_streams::proofs::Puts::puts_then))]
 fn put_first_to_last<S: Sink>(out: &mut S, first: u64, last: u64) -> Result<(), SinkFault>
     ensures { PutsOrFails S.contents S.failed out.old out.new (first_to_last_text first last) result }
 {

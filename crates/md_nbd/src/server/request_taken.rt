@@ -1,14 +1,14 @@
 // A request is taken from the source.
 ghost use Rattle.std.specs.Prelude.{◌≡◌, ◌≤◌, IfOk, MatchResult, OnOk, length, take, true};
 ghost use Rattle.md_nbd.specs.Export.{most_bytes};
-ghost use Rattle.md_nbd.specs.Server.FrontFilled.{FillsFrontOf};
+ghost use Rattle.md_streams.specs.FrontFilled.{FillsFrontOf};
 ghost use Rattle.md_nbd.specs.Server.RequestsTaken.{FailsToTake, TakesRequestOrNone};
 
 use crate::export::MOST_BYTES;
 use crate::request::{Request, decode_request, payload_of, room_of};
-use crate::server::filling_front::fill_front;
-use crate::server::transmission::{Gone, StreamFault};
-use md_commands::{Source, SourceFault};
+use crate::server::session_fault::SessionFault;
+use crate::server::transmission::Gone;
+use md_streams::{Source, SourceFault, fill_front};
 use std::alloc::{AllocError, Global};
 
 // Makes `buf` so long, and takes new memory for it only where it is shorter. The old memory goes before, and with it what stood there.
@@ -42,7 +42,7 @@ pub(crate) fn take_request<I: Source>(
     alloc: Global,
     input: &mut I,
     buf: &mut Vec<u8>,
-) -> Result<Result<Request, Gone>, StreamFault>
+) -> Result<Result<Request, Gone>, SessionFault>
     ensures takes { MatchResult result
         (TakesRequestOrNone I.Source input.old input.new buf.new.items)
         (FailsToTake I.Source input.new) }
@@ -50,7 +50,7 @@ pub(crate) fn take_request<I: Source>(
 {
     let mut head = [0; 28];
     let Ok(taken) = fill_front(input, &mut head) else {
-        return Err(StreamFault::Source);
+        return Err(SessionFault::Source);
     };
     if taken == 0 {
         return Ok(Err(Gone::Ended));
@@ -66,11 +66,11 @@ pub(crate) fn take_request<I: Source>(
         return Ok(Err(Gone::TooLong));
     }
     let Ok(()) = make_room(alloc, buf, room_of(&request) as usize) else {
-        return Err(StreamFault::NoMemory);
+        return Err(SessionFault::NoMemory);
     };
     let payload = payload as usize;
     let Ok(filled) = take_payload(input, buf, payload) else {
-        return Err(StreamFault::Source);
+        return Err(SessionFault::Source);
     };
     if filled < payload {
         return Ok(Err(Gone::Cut));

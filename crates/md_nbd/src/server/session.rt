@@ -3,17 +3,16 @@ ghost use Rattle.std.specs.Prelude.{◌≡◌, ◌*◌, ◌≤◌, MatchResult, 
 ghost use Rattle.md_nbd.specs.Export.{sector_bytes};
 ghost use Rattle.md_nbd.specs.Server.Sessions.{BreaksSession, BreaksToldSession, EndsSession, EndsToldSession, FailsToGreet, GreetsOrEnds, is_orderly};
 
-use crate::export::Export;
 use crate::handshake_head::{greeting, no_zeroes_of};
 use crate::number_fields::u32_of;
-use crate::server::agreement::{HaggleFault, Haggled, haggle};
+use crate::server::agreement::{Haggled, haggle};
 use crate::server::client_watch::ClientWatch;
-use crate::server::filling_front::fill_front;
 use crate::server::putting::put;
+use crate::server::service::Service;
+use crate::server::session_fault::SessionFault;
 use crate::server::store::Store;
-use crate::server::transmission::{Gone, StreamFault, answer_requests};
-use md_commands::Source;
-use md_examine::Sink;
+use crate::server::transmission::{Gone, answer_requests};
+use md_streams::{Sink, Source, fill_front};
 use std::alloc::Global;
 
 /// How a session ended.
@@ -38,46 +37,6 @@ impl SessionEnd {
             SessionEnd::Unagreed(Haggled::Closed | Haggled::Ended)
             | SessionEnd::Gone(Gone::Disconnected | Gone::Ended) => true,
             _ => false,
-        }
-    }
-}
-
-/// Why a session did not go on.
-#[derive(Clone, Copy, Debug, PartialEq, Eq)]
-pub enum SessionFault {
-    /// The source has failed.
-    Source,
-    /// The sink has failed.
-    Sink,
-    NoMemory,
-}
-
-impl From<HaggleFault> for SessionFault {
-    ghost use Rattle.std.specs.Prelude.{◌≡◌};
-    ghost use Rattle.md_nbd.specs.Server.Sessions.{of_haggling};
-
-    ghost from_gives = { λ f e. e ≡ of_haggling f };
-
-    fn from(fault: HaggleFault) -> SessionFault {
-        match fault {
-            HaggleFault::Source => SessionFault::Source,
-            HaggleFault::Sink => SessionFault::Sink,
-            HaggleFault::NoMemory => SessionFault::NoMemory,
-        }
-    }
-}
-
-impl From<StreamFault> for SessionFault {
-    ghost use Rattle.std.specs.Prelude.{◌≡◌};
-    ghost use Rattle.md_nbd.specs.Server.Sessions.{of_stream};
-
-    ghost from_gives = { λ f e. e ≡ of_stream f };
-
-    fn from(fault: StreamFault) -> SessionFault {
-        match fault {
-            StreamFault::Source => SessionFault::Source,
-            StreamFault::Sink => SessionFault::Sink,
-            StreamFault::NoMemory => SessionFault::NoMemory,
         }
     }
 }
@@ -113,27 +72,26 @@ fn greet<I: Source, O: Sink>(
 /// each request that is answered with an error, and why.
 pub fn serve_client<M, S: Store<M>, W: ClientWatch, I: Source, O: Sink>(
     alloc: Global,
-    export: &Export,
+    service: &Service<'_, W>,
     store: &mut S,
     lent: &mut M,
-    watch: &W,
     buf: &mut Vec<u8>,
     input: &mut I,
     out: &mut O,
 ) -> Result<SessionEnd, SessionFault>
     requires room { 65536 ≤ length buf.old.items }
-    requires size { export.now.size ≤ sector_bytes * S.sectors (store.old, lent.old) }
+    requires size { service.now.export.now.size ≤ sector_bytes * S.sectors (store.old, lent.old) }
     requires sound { S.is_sound (store.old, lent.old) }
     ensures serves { MatchResult result
-        (EndsSession S.Store I.Source O.Sink export.now (store.old, lent.old) (store.new, lent.new)
+        (EndsSession S.Store I.Source O.Sink service.now.export.now (store.old, lent.old) (store.new, lent.new)
         input.old input.new out.old out.new)
-        (BreaksSession S.Store I.Source O.Sink export.now (store.old, lent.old) (store.new, lent.new)
+        (BreaksSession S.Store I.Source O.Sink service.now.export.now (store.old, lent.old) (store.new, lent.new)
         input.old input.new out.old out.new) }
     ensures told { MatchResult result
-        (EndsToldSession S.Store I.Source O.Sink export.now (store.old, lent.old) (store.new, lent.new)
-        input.old input.new out.old out.new (W.has_refused watch.now))
-        (BreaksToldSession S.Store I.Source O.Sink export.now (store.old, lent.old) (store.new, lent.new)
-        input.old input.new out.old out.new (W.has_refused watch.now)) }
+        (EndsToldSession S.Store I.Source O.Sink service.now.export.now (store.old, lent.old) (store.new, lent.new)
+        input.old input.new out.old out.new (W.has_refused service.now.watch.now))
+        (BreaksToldSession S.Store I.Source O.Sink service.now.export.now (store.old, lent.old) (store.new, lent.new)
+        input.old input.new out.old out.new (W.has_refused service.now.watch.now)) }
     ensures sound { S.is_sound (store.new, lent.new) }
     ensures size { S.sectors (store.new, lent.new) ≡ S.sectors (store.old, lent.old) }
 {
@@ -141,10 +99,10 @@ pub fn serve_client<M, S: Store<M>, W: ClientWatch, I: Source, O: Sink>(
         Ok(no_zeroes) => no_zeroes,
         Err(end) => return Ok(end),
     };
-    match haggle(alloc, export, no_zeroes, buf, input, out)? {
+    match haggle(alloc, service.export, no_zeroes, buf, input, out)? {
         Haggled::Agreed => {}
         why => return Ok(SessionEnd::Unagreed(why)),
     }
-    let gone = answer_requests(alloc, export, store, lent, watch, buf, input, out)?;
+    let gone = answer_requests(alloc, service, store, lent, buf, input, out)?;
     Ok(SessionEnd::Gone(gone))
 }

@@ -1,7 +1,7 @@
 // What one request asks for is done, and answered.
 ghost use Rattle.std.specs.Prelude.{◌≡◌, ◌+◌, ◌/◌, ◌%◌, ◌<◌, ◌≤◌, ◌++◌, MatchResult, [], length, true};
 ghost use Rattle.md_nbd.specs.declared.task.Task.TheVariants.{Read as ReadTask, Write as WriteTask, Flush as FlushTask, Refuse as RefuseTask};
-ghost use Rattle.md_commands.specs.Output.{PutsOut};
+ghost use Rattle.md_streams.specs.Putting.{PutsOut};
 ghost use Rattle.md_nbd.specs.SimpleReplies.{error_reply};
 ghost use Rattle.md_nbd.specs.Server.Exchanges.{IsStoreFault};
 ghost use Rattle.md_nbd.specs.Server.Refusals.{refused_for};
@@ -13,7 +13,7 @@ use crate::server::client_watch::ClientWatch;
 use crate::server::putting::put;
 use crate::server::refusal::{RefusedRequest, RequestFault};
 use crate::server::store::Store;
-use md_examine::{Sink, SinkFault};
+use md_streams::{Sink, SinkFault};
 
 // Puts out the head of a reply, and the bytes after it.
 fn put_with_bytes<O: Sink>(out: &mut O, head: &[u8], bytes: &[u8]) -> Result<(), SinkFault>
@@ -78,28 +78,37 @@ pub(crate) fn do_read<M, S: Store<M>, W: ClientWatch, O: Sink>(
     }
 }
 
-/// Writes sectors, which with `through` have to stand before the answer.
+/// What a request writes.
+#[derive(Drop)]
+pub(crate) struct SectorWrite<'a> {
+    /// The first sector.
+    pub(crate) sector: u64,
+    pub(crate) bytes: &'a [u8],
+    /// Whether it has to stand before the answer.
+    pub(crate) through: bool,
+}
+
+/// Writes sectors.
 pub(crate) fn do_write<M, S: Store<M>, W: ClientWatch, O: Sink>(
     store: &mut S,
     lent: &mut M,
     watch: &W,
     out: &mut O,
     request: &Request,
-    sector: u64,
-    bytes: &[u8],
-    through: bool,
+    asked: &SectorWrite<'_>,
 ) -> Result<(), SinkFault>
-    requires whole { length bytes.now % 512 ≡ 0 }
-    requires some { 0 < length bytes.now }
-    requires fits { sector + length bytes.now / 512 ≤ S.sectors (store.old, lent.old) }
+    requires whole { length asked.now.bytes.now % 512 ≡ 0 }
+    requires some { 0 < length asked.now.bytes.now }
+    requires fits { asked.now.sector + length asked.now.bytes.now / 512 ≤ S.sectors (store.old, lent.old) }
     requires sound { S.is_sound (store.old, lent.old) }
-    ensures tells { TellsTaskOrFails S.Store O.Sink (W.has_refused watch.now) (WriteTask sector (length bytes.now / 512) through)
-        request.now bytes.now (IsStoreFault (S.why_unwritten (store.old, lent.old) (store.new, lent.new) sector bytes.now))
+    ensures tells { TellsTaskOrFails S.Store O.Sink (W.has_refused watch.now)
+        (WriteTask asked.now.sector (length asked.now.bytes.now / 512) asked.now.through) request.now asked.now.bytes.now
+        (IsStoreFault (S.why_unwritten (store.old, lent.old) (store.new, lent.new) asked.now.sector asked.now.bytes.now))
         (store.old, lent.old) (store.new, lent.new) out.old out.new result }
     ensures sound { S.is_sound (store.new, lent.new) }
     ensures size { S.sectors (store.new, lent.new) ≡ S.sectors (store.old, lent.old) }
 {
-    match store.write(lent, sector, bytes, through) {
+    match store.write(lent, asked.sector, asked.bytes, asked.through) {
         Ok(()) => put(out, &success_reply(request.cookie)),
         Err(fault) => refuse(
             watch,

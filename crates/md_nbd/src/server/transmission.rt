@@ -7,16 +7,16 @@ ghost use Rattle.md_nbd.specs.Server.Exchanges.{IsWhyOf};
 ghost use Rattle.md_nbd.specs.Server.Told.{AnswersOrGoes, FailsToTell, RestsIfSilent};
 ghost use Rattle.md_nbd.specs.Server.Transmission.{BreaksOffTold, TransmitsTold};
 
-use crate::export::Export;
 use crate::request::Request;
 use crate::server::client_watch::ClientWatch;
 use crate::server::refusal::task_fault;
 use crate::server::request_taken::take_request;
+use crate::server::service::Service;
+use crate::server::session_fault::SessionFault;
 use crate::server::store::Store;
-use crate::server::tasks_done::{do_flush, do_read, do_refuse, do_write};
+use crate::server::tasks_done::{SectorWrite, do_flush, do_read, do_refuse, do_write};
 use crate::task::{Task, task_of};
-use md_commands::Source;
-use md_examine::{Sink, SinkFault};
+use md_streams::{Sink, SinkFault, Source};
 use std::alloc::Global;
 
 /// Why no more requests are answered.
@@ -34,17 +34,6 @@ pub enum Gone {
     TooLong,
     /// 2^64 - 1 requests were answered.
     Exhausted,
-}
-
-/// Why no more requests are answered, though they may come.
-#[derive(Clone, Copy, Debug, PartialEq, Eq)]
-pub enum StreamFault {
-    /// The source has failed.
-    Source,
-    /// The sink has failed.
-    Sink,
-    /// There is no memory for what a request reads or writes.
-    NoMemory,
 }
 
 // Lets the store rest, where the client was silent for long. Nobody is told what comes of it: a later answer says whether the store
@@ -65,41 +54,45 @@ fn rest_if_silent<M, S: Store<M>, W: ClientWatch>(store: &mut S, lent: &mut M, w
 
 // Does what a request asks for, and answers: false where it asks the server to go.
 fn answer<M, S: Store<M>, W: ClientWatch, O: Sink>(
-    export: &Export,
+    service: &Service<'_, W>,
     store: &mut S,
     lent: &mut M,
-    watch: &W,
     request: &Request,
     buf: &mut [u8],
     out: &mut O,
 ) -> Result<bool, SinkFault>
     requires room { request.now.length ≤ most_bytes → request.now.length ≤ length buf.old }
     requires payload { payload_of request.now ≤ length buf.old }
-    requires size { export.now.size ≤ sector_bytes * S.sectors (store.old, lent.old) }
+    requires size { service.now.export.now.size ≤ sector_bytes * S.sectors (store.old, lent.old) }
     requires sound { S.is_sound (store.old, lent.old) }
     ensures answers { MatchResult result
-        (AnswersOrGoes S.Store O.Sink (W.has_refused watch.now) export.now request.now (take (payload_of request.now) buf.old)
-        (store.old, lent.old) (store.new, lent.new) out.old out.new)
-        (λ _. FailsToTell S.Store O.Sink (W.has_refused watch.now) (task_of export.now request.now) request.now
-        (take (payload_of request.now) buf.old) (IsWhyOf S.Store export.now request.now (task_of export.now request.now)
+        (AnswersOrGoes S.Store O.Sink (W.has_refused service.now.watch.now) service.now.export.now request.now
+        (take (payload_of request.now) buf.old) (store.old, lent.old) (store.new, lent.new) out.old out.new)
+        (λ _. FailsToTell S.Store O.Sink (W.has_refused service.now.watch.now)
+        (task_of service.now.export.now request.now) request.now (take (payload_of request.now) buf.old)
+        (IsWhyOf S.Store service.now.export.now request.now (task_of service.now.export.now request.now)
         (take (payload_of request.now) buf.old) (store.old, lent.old) (store.new, lent.new))
         (store.old, lent.old) (store.new, lent.new) out.new) }
     ensures sound { S.is_sound (store.new, lent.new) }
     ensures size { S.sectors (store.new, lent.new) ≡ S.sectors (store.old, lent.old) }
 {
-    match task_of(export, request) {
+    match task_of(service.export, request) {
         Task::Read(sector, sectors) => {
             let room = &mut buf[..512 * sectors as usize];
-            do_read(store, lent, watch, out, request, sector, room)?;
+            do_read(store, lent, service.watch, out, request, sector, room)?;
         }
         Task::Write(sector, sectors, through) => {
-            let bytes = &buf[..512 * sectors as usize];
-            do_write(store, lent, watch, out, request, sector, bytes, through)?;
+            let asked = SectorWrite {
+                sector,
+                bytes: &buf[..512 * sectors as usize],
+                through,
+            };
+            do_write(store, lent, service.watch, out, request, &asked)?;
         }
-        Task::Flush => do_flush(store, lent, watch, out, request)?,
+        Task::Flush => do_flush(store, lent, service.watch, out, request)?,
         Task::Refuse(error) => {
-            let fault = task_fault(export, request);
-            do_refuse(store, lent, watch, out, request, fault, error)?;
+            let fault = task_fault(service.export, request);
+            do_refuse(store, lent, service.watch, out, request, fault, error)?;
         }
         Task::Disconnect => return Ok(false),
     }
@@ -115,19 +108,20 @@ fn answer<M, S: Store<M>, W: ClientWatch, O: Sink>(
 /// The export may be smaller than the store, and none of its requests goes past it. Where a stream fails no reply is made up for what was not told.
 pub fn answer_requests<M, S: Store<M>, W: ClientWatch, I: Source, O: Sink>(
     alloc: Global,
-    export: &Export,
+    service: &Service<'_, W>,
     store: &mut S,
     lent: &mut M,
-    watch: &W,
     buf: &mut Vec<u8>,
     input: &mut I,
     out: &mut O,
-) -> Result<Gone, StreamFault>
-    requires size { export.now.size ≤ sector_bytes * S.sectors (store.old, lent.old) }
+) -> Result<Gone, SessionFault>
+    requires size { service.now.export.now.size ≤ sector_bytes * S.sectors (store.old, lent.old) }
     requires sound { S.is_sound (store.old, lent.old) }
     ensures answers { MatchResult result
-        (TransmitsTold S.Store I.Source O.Sink export.now (W.has_refused watch.now) (store.old, lent.old) (store.new, lent.new) input.old input.new out.old out.new)
-        (BreaksOffTold S.Store I.Source O.Sink export.now (W.has_refused watch.now) (store.old, lent.old) (store.new, lent.new) input.old input.new out.old out.new) }
+        (TransmitsTold S.Store I.Source O.Sink service.now.export.now (W.has_refused service.now.watch.now)
+        (store.old, lent.old) (store.new, lent.new) input.old input.new out.old out.new)
+        (BreaksOffTold S.Store I.Source O.Sink service.now.export.now (W.has_refused service.now.watch.now)
+        (store.old, lent.old) (store.new, lent.new) input.old input.new out.old out.new) }
     ensures sound { S.is_sound (store.new, lent.new) }
     ensures size { S.sectors (store.new, lent.new) ≡ S.sectors (store.old, lent.old) }
 {
@@ -136,11 +130,11 @@ pub fn answer_requests<M, S: Store<M>, W: ClientWatch, I: Source, O: Sink>(
             Ok(request) => request,
             Err(gone) => return Ok(gone),
         };
-        rest_if_silent(store, lent, watch);
-        match answer(export, store, lent, watch, &request, buf, out) {
+        rest_if_silent(store, lent, service.watch);
+        match answer(service, store, lent, &request, buf, out) {
             Ok(true) => {}
             Ok(false) => return Ok(Gone::Disconnected),
-            Err(SinkFault) => return Err(StreamFault::Sink),
+            Err(SinkFault) => return Err(SessionFault::Sink),
         }
     }
     Ok(Gone::Exhausted)

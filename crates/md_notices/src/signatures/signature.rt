@@ -3,7 +3,7 @@ ghost use Rattle.std.specs.Prelude.{◌≡◌};
 ghost use Rattle.md_notices.specs.Signatures.Texts.{text_of};
 
 /// What the bytes of a device say that it holds. `specs/Signatures/Table.antt` says by which bytes.
-#[derive(Clone, Copy, Debug, PartialEq, Eq)]
+#[derive(Clone, Copy)]
 pub enum Signature {
     /// An MD superblock of version 0.90, near the end of the device.
     Md090,

@@ -45,8 +45,19 @@ impl MadeFile {
         &self.file
     }
 
+    /// Writes these bytes as the whole file, and syncs the file. Then it syncs the folder, so that the file's name is stored too.
+    pub fn write_named<R: Files<File = File>>(
+        &self,
+        rt: &R,
+        path: &str,
+        bytes: &[u8],
+    ) -> io::Result<()> {
+        self.write_whole(bytes)?;
+        sync_folder(rt, path)
+    }
+
     /// Writes these bytes as all of it, and has them stored. A file that has lost its last name is gone with them.
-    pub fn write_whole(&self, bytes: &[u8]) -> io::Result<()> {
+    pub(crate) fn write_whole(&self, bytes: &[u8]) -> io::Result<()> {
         self.file.write_all_at(bytes, 0)?;
         self.file.sync_data()?;
         if self.file.metadata()?.nlink() == 0 {
@@ -73,4 +84,22 @@ impl MadeFile {
 
 fn no_file() -> io::Error {
     io::Error::new(ErrorKind::InvalidInput, "it is no regular file")
+}
+
+/// Stores on its disk which files the folder of this one has. Not every file system can do that.
+pub(crate) fn sync_folder<R: Files<File = File>>(rt: &R, path: &str) -> io::Result<()> {
+    let folder = match path.rsplit_once('/') {
+        Some(("", _)) => "/",
+        Some((folder, _)) => folder,
+        None => ".",
+    };
+    let folder = File::open(rt, folder)?;
+    match folder.sync_all() {
+        Err(error) if is_unable(error.kind()) => Ok(()),
+        synced => synced,
+    }
+}
+
+fn is_unable(kind: ErrorKind) -> bool {
+    matches!(kind, ErrorKind::InvalidInput | ErrorKind::Unsupported)
 }

@@ -11,4 +11,5 @@ mod made_file;
 mod new_file;
 
 pub use made_file::MadeFile;
+pub(crate) use made_file::sync_folder;
 pub use new_file::NewFile;

@@ -1,9 +1,9 @@
 // A new file that gets what is put out.
 ghost use Rattle.std.specs.Prelude.{◌≡◌, None, is_some, true, ⊤};
 
-use crate::made::made_file::MadeFile;
-use md_examine::SinkFault;
+use crate::made::made_file::{MadeFile, sync_folder};
 use md_files::{HoleFile, OutputFileFault};
+use md_streams::SinkFault;
 use std::fs::{File, Files};
 use std::io::{self, ErrorKind};
 use std::os::unix::fs::FileExt;
@@ -31,8 +31,8 @@ impl<'a, R: Files<File = File>> NewFile<'a, R> {
         })
     }
 
-    /// Ends the file, which was made under this name: where nothing was written it is taken away, and else it is as long as what was written, and on its
-    /// disk. Says why it is not, or why it was not written any more.
+    /// Ends the file, which was made under this name. If nothing was written, the file is removed. Otherwise it is as long as what
+    /// was written, and it is synced with its name. The fault says why this failed, or why writing to it stopped earlier.
     pub fn end(self, path: &str) -> Result<(), OutputFileFault> {
         let NewFile {
             rt,
@@ -49,6 +49,7 @@ impl<'a, R: Files<File = File>> NewFile<'a, R> {
         }
         let length = made.file().set_len(at);
         made.file().sync_data().map_err(OutputFileFault::Unwritten)?;
+        sync_folder(rt, path).map_err(OutputFileFault::Unwritten)?;
         match fault.or(length.err()) {
             Some(error) => Err(OutputFileFault::Cut(error)),
             None => Ok(()),

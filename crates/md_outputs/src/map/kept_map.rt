@@ -1,5 +1,5 @@
 // The map of a read as it is kept while the read goes on.
-use crate::made::MadeFile;
+use crate::made::{MadeFile, sync_folder};
 use std::fs::{self, File, Files};
 use std::io::{self, ErrorKind};
 
@@ -20,8 +20,7 @@ impl<'a, R: Files<File = File> + AllocGlobal> KeptMap<'a, R> {
 
     /// Writes the first text where the file is empty or has a part of that text.
     pub(crate) fn begin(&self, text: &str) -> io::Result<()> {
-        self.file.write_whole(text.as_bytes())?;
-        sync_folder(self.rt, &self.path)
+        self.file.write_named(self.rt, &self.path, text.as_bytes())
     }
 
     /// Puts this text in the place of the one that is there, once it is on its disk. That its name is stored is `store_name`'s.
@@ -70,22 +69,4 @@ fn new_beside<R: Files<File = File> + AllocGlobal>(
         }
     }
     Err(io::Error::from(ErrorKind::AlreadyExists))
-}
-
-/// Stores on its disk which files the folder of this one has. Not every file system can do that.
-pub(crate) fn sync_folder<R: Files<File = File>>(rt: &R, path: &str) -> io::Result<()> {
-    let folder = match path.rsplit_once('/') {
-        Some(("", _)) => "/",
-        Some((folder, _)) => folder,
-        None => ".",
-    };
-    let folder = File::open(rt, folder)?;
-    match folder.sync_all() {
-        Err(error) if is_unable(error.kind()) => Ok(()),
-        synced => synced,
-    }
-}
-
-fn is_unable(kind: ErrorKind) -> bool {
-    matches!(kind, ErrorKind::InvalidInput | ErrorKind::Unsupported)
 }

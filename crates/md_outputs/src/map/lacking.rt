@@ -1,6 +1,6 @@
 // Which sectors a read does not get, as it goes on.
 use md_badblocks::{BadSet, Run};
-use md_read_commands::Gaps;
+use md_streams::Gaps;
 use std::alloc::{AllocError, Global};
 use std::sync::Mutex;
 use std::sync::atomic::{AtomicBool, Ordering};

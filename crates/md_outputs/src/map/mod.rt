@@ -19,7 +19,7 @@ mod resumed_map;
 pub(crate) use file_end::{end_line, file_line};
 pub use identity::Identity;
 pub(crate) use identity::IdentityFault;
-pub(crate) use kept_map::{KeptMap, sync_folder};
+pub(crate) use kept_map::KeptMap;
 pub use lacking::Lacking;
 pub use resume_fault::{Difference, Kept, ResumeFault, resume_advice};
 pub(crate) use resumed_map::{HEADING, Progressed, Purpose, Standing};

@@ -4,7 +4,7 @@ use std::io::{self, ErrorKind};
 use thiserror::Error;
 
 /// What is another than it was.
-#[derive(Clone, Copy, Debug, PartialEq, Eq, Error)]
+#[derive(Clone, Copy, Debug, Error)]
 pub enum Difference {
     /// The file's name.
     #[error("Output")]
@@ -24,7 +24,7 @@ pub enum Difference {
 }
 
 /// One of the two files.
-#[derive(Clone, Copy, Debug, PartialEq, Eq)]
+#[derive(Clone, Copy, Debug)]
 pub enum Kept {
     Output,
     Map,

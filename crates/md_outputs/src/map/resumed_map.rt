@@ -7,7 +7,7 @@ use crate::map::lacking::copy_of;
 use crate::map::resume_fault::{Difference, ResumeFault};
 use md_badblocks::BadSet;
 use md_files::{MapFault, read_map, write_map_of_read};
-use md_read_commands::Gaps;
+use md_streams::Gaps;
 use std::alloc::{AllocError, Global};
 use std::str;
 

@@ -1,8 +1,8 @@
 // Where a read goes on, or begins so that it can.
-use crate::made::MadeFile;
+use crate::made::{MadeFile, sync_folder};
 use crate::map::{
     Difference, HEADING, Identity, IdentityFault, Kept, KeptMap, Lacking, Progressed, Purpose,
-    ResumeFault, Standing, end_line, file_line, sync_folder,
+    ResumeFault, Standing, end_line, file_line,
 };
 use crate::resuming::names::Names;
 use crate::resuming::refusal::{
@@ -10,7 +10,7 @@ use crate::resuming::refusal::{
 };
 use crate::resuming::resumed_file::{MOST_BEHIND, ResumedFile};
 use md_files::MapText;
-use md_read_commands::Gaps;
+use md_streams::Gaps;
 use md_words::Request;
 use std::alloc::Global;
 use std::fs::{File, Files};

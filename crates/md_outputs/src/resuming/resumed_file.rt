@@ -3,8 +3,8 @@ ghost use Rattle.std.specs.Prelude.{◌≡◌, MatchResult, None, is_some, true,
 
 use crate::made::MadeFile;
 use crate::map::{KeptMap, Lacking, Purpose, end_line, file_line};
-use md_examine::SinkFault;
 use md_files::{HoleFile, MapOutFault, OutputFileFault};
+use md_streams::SinkFault;
 use std::alloc::AllocError;
 use std::fs::{File, Files};
 use std::io::{self, ErrorKind};

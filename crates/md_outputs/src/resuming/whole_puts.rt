@@ -1,8 +1,8 @@
 // A sink that hands on nothing in part.
 ghost use Rattle.std.specs.Prelude.{◌≡◌};
-ghost use Rattle.md_examine.specs.Sink.{PutsOrFails};
+ghost use Rattle.md_streams.specs.Sink.{PutsOrFails};
 
-use md_examine::{Sink, SinkFault};
+use md_streams::{Sink, SinkFault};
 
 /// A sink over another one, which it flushes after each `put` of bytes: so that one knows where these end.
 #[derive(Drop)]

@@ -3,7 +3,7 @@ ghost use Rattle.std.specs.Prelude.{◌≡◌, ◌≤◌, ◌++◌, codes, false
 ghost use Rattle.std.specs.List.{filter};
 ghost use Rattle.serde_json.specs.Written.{compact_text};
 ghost use Rattle.md_raw_reports.specs.BitmapFields.{bitmap_fault_stands};
-ghost use Rattle.md_examine.specs.Sink.{PutsOrFails};
+ghost use Rattle.md_streams.specs.Sink.{PutsOrFails};
 ghost use Rattle.md_report.specs.AsJson.Objects.{elements_text, later_text, object_line, next_text, whole};
 ghost use Rattle.md_raw_reports.specs.RawJson.RawBitmap.{bitmap_rows, header_fault_value, header_faults, header_fields, lost_count, lost_of, lost_sector, raw_mark_fields, part_fields, raw_bitmap_object, super_fault_fields};
 ghost use Rattle.md_raw_reports.specs.RawJson.RawFields.{row_field};
@@ -13,8 +13,8 @@ use crate::raw_bitmap::{CountedMarks, RawBitmap, UnreadMarks};
 use crate::raw_json::raw_fields::{next_fields, stands_before, text_where};
 use crate::raw_json::raw_super_object::{next_faults, unread};
 use md_bitmap::BitmapFault;
-use md_examine::{Sink, SinkFault};
 use md_report::as_json::values::{close, next_key, next_null, next_number, open};
+use md_streams::{Sink, SinkFault};
 
 /// Writes a bitmap as it stands as an object, alone in its line, though it or the superblock that names its place may be refused, and
 /// though only the first so many sectors of the superblock could be read: what could not be, the faults of either that stand, the
@@ -39,7 +39,7 @@ pub fn raw_bitmap_json<S: Sink>(
 }
 
 /// The faults of the superblock, where a sector of it could be read.
-#[tactic(auto, unfolding(crate::specs::RawJson::RawBitmap::super_fault_fields, md_report::specs::AsJson::Objects::later_text), using(md_examine::proofs::Puts::puts_then))]
+#[tactic(auto, unfolding(crate::specs::RawJson::RawBitmap::super_fault_fields, md_report::specs::AsJson::Objects::later_text), using(md_streams::proofs::Puts::puts_then))]
 pub(crate) fn super_faults<S: Sink>(
     out: &mut S,
     read: u32,
@@ -56,7 +56,7 @@ pub(crate) fn super_faults<S: Sink>(
     Ok(())
 }
 
-#[tactic(auto, unfolding(crate::specs::RawJson::RawBitmap::part_fields, md_report::specs::AsJson::Objects::later_text), using(md_examine::proofs::Puts::puts_then))]
+#[tactic(auto, unfolding(crate::specs::RawJson::RawBitmap::part_fields, md_report::specs::AsJson::Objects::later_text), using(md_streams::proofs::Puts::puts_then))]
 fn part<S: Sink>(out: &mut S, bitmap: &RawBitmap) -> Result<(), SinkFault>
     ensures { PutsOrFails S.contents S.failed out.old out.new (later_text (part_fields bitmap.now)) result }
 {

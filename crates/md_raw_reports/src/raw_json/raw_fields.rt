@@ -2,17 +2,18 @@
 ghost use Rattle.std.specs.Prelude.{◌≡◌, ◌≤◌, ◌||◌, ◌++◌, [], if◌then◌else◌, length, map};
 ghost use Rattle.json.specs.Print.{quoted};
 ghost use Rattle.serde_json.specs.Written.{comma_if, compact_text};
-ghost use Rattle.md_examine.specs.Sink.{PutsOrFails};
+ghost use Rattle.md_streams.specs.Sink.{PutsOrFails};
 ghost use Rattle.md_report.specs.AsJson.Objects.{later_text, next_text};
 ghost use Rattle.md_raw_reports.specs.RawJson.RawFields.{table_field, value_of};
 
 use crate::fields::{Field, Kind};
-use md_examine::{Sink, SinkFault, hex_digits};
+use md_examine::hex_digits;
 use md_format::{array_at, u8_at, u16_at, u32_at, u64_at, uuid_at};
 use md_report::as_json::values::{
     comma_if, next_name, next_number, next_signed, next_text, next_uuid,
 };
 use md_report::put_quoted;
+use md_streams::{Sink, SinkFault};
 
 // The low 40 bits of a time.
 const SECONDS: u64 = 1 << 40;
@@ -63,7 +64,7 @@ pub(crate) fn stands_before(later: bool, is_there: bool) -> bool
 }
 
 /// A text as an element of a list, where it is one.
-#[tactic(auto, using(md_examine::proofs::Puts::puts_then))]
+#[tactic(auto, using(md_streams::proofs::Puts::puts_then))]
 pub(crate) fn text_where<S: Sink>(
     out: &mut S,
     later: bool,

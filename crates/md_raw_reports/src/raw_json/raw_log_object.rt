@@ -4,7 +4,7 @@ ghost use Rattle.std.specs.List.{filter};
 ghost use Rattle.serde_json.specs.Written.{comma_if, compact_text};
 ghost use Rattle.md_format.specs.Fields.{number_at};
 ghost use Rattle.md_raw_reports.specs.LogFields.{entries_there};
-ghost use Rattle.md_examine.specs.Sink.{PutsOrFails};
+ghost use Rattle.md_streams.specs.Sink.{PutsOrFails};
 ghost use Rattle.md_report.specs.AsJson.WholeArray.MemberObjects.{number_or_null};
 ghost use Rattle.md_report.specs.AsJson.Objects.{elements_text, later_text, object_line, next_text};
 ghost use Rattle.md_raw_reports.specs.RawJson.RawFields.{row_field};
@@ -14,11 +14,11 @@ use crate::log_fields::LOG_FIELDS;
 use crate::raw_json::raw_bitmap_object::super_faults;
 use crate::raw_json::raw_fields::{next_fields, stands_before, text_where};
 use crate::raw_json::raw_super_object::unread;
-use md_examine::{Sink, SinkFault};
 use md_format::{u8_at, u64_at};
 use md_report::as_json::values::{
     close, comma_if, next_key, next_null, next_number, open, open_number,
 };
+use md_streams::{Sink, SinkFault};
 
 // The most that a log's units may be shifted by.
 const MAX_SHIFT: u8 = 9;
@@ -51,7 +51,7 @@ pub fn raw_log_json<S: Sink>(
 }
 
 // What the superblock says of the log, where it could be read.
-#[tactic(auto, unfolding(crate::specs::RawJson::RawLog::told_fields, md_report::specs::AsJson::Objects::later_text), using(md_examine::proofs::Puts::puts_then))]
+#[tactic(auto, unfolding(crate::specs::RawJson::RawLog::told_fields, md_report::specs::AsJson::Objects::later_text), using(md_streams::proofs::Puts::puts_then))]
 fn superblock_part<S: Sink>(
     out: &mut S,
     read: u32,
@@ -148,7 +148,7 @@ fn is_entry(area: &[u8], place: usize) -> bool
     u64_at(area, 8 * place) != u64::MAX
 }
 
-#[tactic(auto, using(md_examine::proofs::Puts::puts_then))]
+#[tactic(auto, using(md_streams::proofs::Puts::puts_then))]
 fn entry_where<S: Sink>(
     out: &mut S,
     later: bool,

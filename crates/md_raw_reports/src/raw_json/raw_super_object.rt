@@ -2,7 +2,7 @@
 ghost use Rattle.std.specs.Prelude.{◌≡◌, ◌<◌, ◌≤◌, ◌++◌, [], codes, false, if◌then◌else◌, map};
 ghost use Rattle.std.specs.List.{filter, range_with_len};
 ghost use Rattle.serde_json.specs.Written.{comma_if, compact_text};
-ghost use Rattle.md_examine.specs.Sink.{PutsOrFails};
+ghost use Rattle.md_streams.specs.Sink.{PutsOrFails};
 ghost use Rattle.md_raw_reports.specs.SuperFaults.{faults_of, is_seen};
 ghost use Rattle.md_report.specs.AsJson.Objects.{elements_text, later_text, object_line, next_text};
 ghost use Rattle.md_raw_reports.specs.RawJson.RawFields.{row_field};
@@ -13,11 +13,12 @@ use crate::super_faults::{
     roles_read_in, super_fault_is_seen, super_fault_name, super_faults_of, unsupported_features,
 };
 use crate::super_fields::{Found, SUPER_FIELDS};
-use md_examine::{Sink, SinkFault, hex_digits};
+use md_examine::hex_digits;
 use md_format::{u16_at, u32_at};
 use md_report::as_json::values::{
     close, comma_if, next_key, next_null, next_number, next_text, next_uuid, open, open_number,
 };
+use md_streams::{Sink, SinkFault};
 use md_super::{SPARE, SUPER_SECTOR, SuperFault, checksum};
 
 // The sectors of a superblock.
@@ -64,7 +65,7 @@ fn next_unread<S: Sink>(out: &mut S, read: u32) -> Result<(), SinkFault>
     }
 }
 
-#[tactic(auto, unfolding(crate::specs::RawJson::RawSuper::known_fields, md_report::specs::AsJson::Objects::later_text), using(md_examine::proofs::Puts::puts_then))]
+#[tactic(auto, unfolding(crate::specs::RawJson::RawSuper::known_fields, md_report::specs::AsJson::Objects::later_text), using(md_streams::proofs::Puts::puts_then))]
 fn known_part<S: Sink>(out: &mut S, read: u32, bytes: &[u8; 4096]) -> Result<(), SinkFault>
     requires { read ≤ 8 }
     ensures { PutsOrFails S.contents S.failed out.old out.new (later_text (known_fields read bytes.now)) result }
@@ -205,7 +206,7 @@ fn role_at(bytes: &[u8; 4096], number: u32) -> u16
     u16_at(bytes, 256 + 2 * number as usize)
 }
 
-#[tactic(auto, using(md_examine::proofs::Puts::puts_then))]
+#[tactic(auto, using(md_streams::proofs::Puts::puts_then))]
 fn role_where<S: Sink>(
     out: &mut S,
     later: bool,
@@ -268,7 +269,7 @@ fn is_found(found: &Found) -> bool
     }
 }
 
-#[tactic(auto, using(md_examine::proofs::Puts::puts_then))]
+#[tactic(auto, using(md_streams::proofs::Puts::puts_then))]
 fn found_where<S: Sink>(
     out: &mut S,
     later: bool,

@@ -3,7 +3,7 @@ use thiserror::Error;
 
 /// Why the bytes of a part of a member are not read, in the order in which it is looked for. That a read failed is none: what could
 /// not be read is said beside what could.
-#[derive(Clone, Copy, Debug, PartialEq, Eq, Error)]
+#[derive(Clone, Copy, Debug, Error)]
 pub enum RawFault {
     /// The device has fewer than 16 sectors.
     #[error("TooShort")]

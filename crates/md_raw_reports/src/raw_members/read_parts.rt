@@ -21,7 +21,7 @@ const SUPER_SECTORS: u32 = 8;
 const MAX_LOG_SECTORS: u16 = 8;
 
 /// What was read of a bad block log: so many bytes, or none from this sector on, where it could not be read.
-#[derive(Clone, Copy, Debug, PartialEq, Eq)]
+#[derive(Clone, Copy)]
 pub struct RawLog {
     pub len: usize,
     pub lost: Option<u64>,

@@ -5,8 +5,8 @@ ghost use Rattle.md_members.specs.Members.{reads_log};
 ghost use Rattle.md_members.specs.Reading.{LogStartsAt};
 ghost use Rattle.md_read_commands.specs.StandIn.{HoldsLog};
 
-use md_commands::DataOfFault;
 use md_device::Device;
+use md_refusals::DataOfFault;
 use md_super::{FEATURE_BAD_BLOCKS, SUPER_SECTOR, Superblock};
 use std::alloc::{AllocError, Global};
 

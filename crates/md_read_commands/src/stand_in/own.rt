@@ -8,10 +8,10 @@ ghost use Rattle.md_read_commands.specs.StandIn.{BearsRole, FitsOrFailed, FirstS
 
 use md_assembly::state_of;
 use md_bitmap::BitmapHeader;
-use md_commands::DataOfFault;
 use md_device::Device;
 use md_format::{array_at, u16_at, u32_at, u64_at, uuid_at};
 use md_members::{MemberFault, read_member, read_super};
+use md_refusals::DataOfFault;
 use md_super::{
     FEATURE_BAD_BLOCKS, FEATURE_RECOVERY_OFFSET, MAGIC, SUPER_SECTOR, SuperFault, Superblock,
 };
@@ -21,7 +21,7 @@ use std::alloc::Global;
 const ROLES_IN_SECTOR: u32 = 128;
 
 /// What is known of the member by its own superblock.
-#[derive(Debug, Drop)]
+#[derive(Drop)]
 pub(crate) enum Own {
     /// It can be read, and the bitmap or the log can't.
     Read(Superblock),

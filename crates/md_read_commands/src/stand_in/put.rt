@@ -14,9 +14,9 @@ use crate::stand_in::shown::{check_number, header_of};
 use md_array::Mirror;
 use md_assembly::state_of;
 use md_bitmap::{BitmapHeader, Chunks, Marks, sectors_of_bitmap};
-use md_commands::DataOfFault;
 use md_device::Device;
 use md_members::{MemberFault, MemberInfo, read_member, store_bitmap};
+use md_refusals::DataOfFault;
 use md_super::{SUPER_SECTOR, Superblock, encode_member};
 use std::alloc::Global;
 
@@ -24,7 +24,7 @@ use std::alloc::Global;
 const LEAST_SECTORS: u64 = 16;
 
 /// The image with this index counts as the device with this number, and is compared with the members in sync or not.
-#[derive(Clone, Copy, Debug)]
+#[derive(Clone, Copy)]
 pub struct StandIn {
     pub index: usize,
     pub number: u32,

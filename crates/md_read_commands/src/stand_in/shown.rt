@@ -6,8 +6,8 @@ ghost use Rattle.md_read_commands.specs.StandIn.{IsFirstOf, IsFreeNumber, NoneDo
 use md_array::Mirror;
 use md_assembly::MemberState;
 use md_bitmap::{BitmapHeader, has_few_chunks, is_chunk_size};
-use md_commands::DataOfFault;
 use md_device::Device;
+use md_refusals::DataOfFault;
 use md_super::Superblock;
 
 // The seconds after which the bitmap's daemon wakes, as `mdadm` has it.

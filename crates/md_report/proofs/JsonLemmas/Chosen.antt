@@ -6,8 +6,8 @@ use Rattle.std.proofs.lemmas.List.{length-append, map_more}
 use Rattle.std.proofs.lemmas.List.Elements.{filter-append}
 use Rattle.serde_json.specs.Data.{Data}
 use Rattle.serde_json.specs.Written.{comma_if, compact_text}
-use Rattle.md_examine.specs.Sink.{Puts}
-use Rattle.md_examine.proofs.Puts.{puts_then}
+use Rattle.md_streams.specs.Sink.{Puts}
+use Rattle.md_streams.proofs.Puts.{puts_then}
 use Rattle.md_report.specs.AsJson.Objects.{Field, elements_text, later_text}
 use Rattle.md_report.proofs.JsonLemmas.Elements.{element_more}
 use Rattle.md_report.proofs.JsonLemmas.Texts.{is_later, later_more, later_next}

@@ -8,8 +8,8 @@ use Rattle.md_assembly.specs.States.{is_in_sync}
 use Rattle.md_badblocks.specs.declared.run.Run.{Run}
 use Rattle.md_bitmap.specs.declared.chunks.Chunks.{Chunks}
 use Rattle.md_bitmap.specs.Marks.{Bitmap, count_set, is_set}
-use Rattle.md_check.specs.declared.found.Comparison.{Comparison}
-use Rattle.md_check.specs.declared.found.Pair.{Pair}
+use Rattle.md_collect.specs.declared.found.Comparison.{Comparison}
+use Rattle.md_collect.specs.declared.found.Pair.{Pair}
 use Rattle.md_kept_members.specs.View.{MemberView}
 use Rattle.md_state.specs.View.{ArrayView}
 use Rattle.md_report.specs.AsJson.WholeArray.ArrayObjects.{members_fields}

@@ -4,5 +4,7 @@ pub mod MemberObjects
 pub mod StandingLists
 -- How far recovering members are rebuilt.
 pub mod RecoveringList
+-- What is to be run before a kernel is given the array.
+pub mod KernelField
 -- The objects of a whole array.
 pub mod ArrayObjects

@@ -3,8 +3,8 @@ use Rattle.std.specs.Prelude.{ℕ, ◌+◌, ◌-◌, ◌*◌, if◌then◌else�
 use Rattle.std.specs.List.{flat_map, range_with_len}
 use Rattle.md_bitmap.specs.declared.chunks.Chunks.{Chunks}
 use Rattle.md_bitmap.specs.Marks.{count_set, is_set}
-use Rattle.md_check.specs.declared.found.Comparison.{Comparison}
-use Rattle.md_check.specs.declared.found.Pair.{Pair}
+use Rattle.md_collect.specs.declared.found.Comparison.{Comparison}
+use Rattle.md_collect.specs.declared.found.Pair.{Pair}
 use Rattle.md_examine.specs.Lines.{right_aligned}
 
 -- in how many chunks members in sync differ

@@ -4,8 +4,8 @@ ghost use Rattle.std.specs.Int.{div_ceil};
 ghost use Rattle.std.specs.List.{All};
 ghost use Rattle.serde_json.specs.Written.{comma_if, compact_text};
 ghost use Rattle.md_bitmap.specs.Marks.{is_set};
-ghost use Rattle.md_check.specs.Differences.{IsSized};
-ghost use Rattle.md_examine.specs.Sink.{PutsOrFails};
+ghost use Rattle.md_collect.specs.Found.{IsSized};
+ghost use Rattle.md_streams.specs.Sink.{PutsOrFails};
 ghost use Rattle.md_report.specs.AsJson.CheckObject.{check_object, chunk_list_fields, chunk_object, chunks_to, compared_fields, compared_to, count_fields, listed_fields, pair_value, pairs_in, run_of_chunk};
 ghost use Rattle.md_report.specs.AsJson.WholeArray.MemberObjects.{texts_of};
 ghost use Rattle.md_report.specs.AsJson.Objects.{elements_text, later_text, object_line, list_of, next_text, whole};
@@ -18,9 +18,9 @@ use crate::as_json::whole_array::standing_lists::bad_sectors;
 use md_array::Mirror;
 use md_badblocks::Run;
 use md_bitmap::{Chunks, Marks};
-use md_check::{Comparison, Pair};
+use md_collect::{Comparison, Pair};
 use md_device::Device;
-use md_examine::{Sink, SinkFault};
+use md_streams::{Sink, SinkFault};
 
 /// Writes a check as an object, alone in its line: in how many chunks members in sync differ, of each of these the
 /// sectors and the pairs of members that differ there, the members, of which `images` are the names, the indices of those
@@ -143,7 +143,7 @@ fn chunk_where<S: Sink>(
     chunk_element(out, later, chunks, pairs, c)
 }
 
-#[tactic(auto, using(md_examine::proofs::Puts::puts_then))]
+#[tactic(auto, using(md_streams::proofs::Puts::puts_then))]
 fn chunk_element<S: Sink>(
     out: &mut S,
     later: bool,
@@ -230,7 +230,7 @@ fn pair_where<S: Sink>(
     pair_element(out, later, pair)
 }
 
-#[tactic(auto, using(md_examine::proofs::Puts::puts_then))]
+#[tactic(auto, using(md_streams::proofs::Puts::puts_then))]
 fn pair_element<S: Sink>(out: &mut S, later: bool, pair: &Pair) -> Result<(), SinkFault>
     ensures { PutsOrFails S.contents S.failed out.old out.new
         (comma_if later ++ compact_text (pair_value pair.now)) result }

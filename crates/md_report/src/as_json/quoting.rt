@@ -1,14 +1,13 @@
 // A text in quotes.
-ghost use Rattle.std.specs.Prelude.{◌≡◌, ◌<◌};
+ghost use Rattle.std.specs.Prelude.{◌≡◌};
 ghost use Rattle.std.specs.List.{flat_map};
-ghost use Rattle.std.specs.Char.{digit_char};
 ghost use Rattle.json.specs.Print.{escape_byte, escape_letter, quoted};
-ghost use Rattle.md_examine.specs.Sink.{PutsOrFails};
+ghost use Rattle.md_streams.specs.Sink.{PutsOrFails};
 
-use md_examine::{Sink, SinkFault};
+use md_streams::{Sink, SinkFault, hex_digit};
 
 /// A text in quotes. Bytes above 127 stand as they are: text is UTF-8.
-#[tactic(auto, using(md_examine::proofs::Puts::puts_then))]
+#[tactic(auto, using(md_streams::proofs::Puts::puts_then))]
 pub fn put_quoted<S: Sink>(out: &mut S, text: &[u8]) -> Result<(), SinkFault>
     ensures { PutsOrFails S.contents S.failed out.old out.new (quoted text.now) result }
 {
@@ -60,16 +59,5 @@ fn escape_letter(byte: u8) -> u8
         b'\r' => b'r',
         b'\t' => b't',
         _ => 0,
-    }
-}
-
-fn hex_digit(digit: u8) -> u8
-    requires { digit < 16 }
-    ensures { result ≡ digit_char digit }
-{
-    if digit < 10 {
-        b'0' + digit
-    } else {
-        b'a' - 10 + digit
     }
 }

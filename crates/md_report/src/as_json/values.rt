@@ -7,18 +7,19 @@ ghost use Rattle.json.specs.Print.{quoted, token_text};
 ghost use Rattle.json.specs.Token.{Token};
 ghost use Rattle.serde_json.specs.Written.{comma_if, compact_text};
 ghost use Rattle.md_examine.specs.Lines.{name_text};
-ghost use Rattle.md_examine.specs.Sink.{PutsOrFails};
+ghost use Rattle.md_streams.specs.Sink.{PutsOrFails};
 ghost use Rattle.md_examine.specs.SuperblockReport.{state_text};
 ghost use Rattle.md_report.specs.AsJson.Objects.{close_text, key_text, next_text, open_text, signed, whole};
 
 use crate::as_json::quoting::put_quoted;
 use itoa::{Buffer, Integer};
-use md_examine::{Sink, SinkFault, cleanness, name_len, shown_bytes};
+use md_examine::{cleanness, name_len, shown_bytes};
+use md_streams::{Sink, SinkFault};
 use md_super::Superblock;
 use uuid::Uuid;
 
 /// Opens the object of a report: its first field says which one it is.
-#[tactic(auto, unfolding(crate::specs::AsJson::Objects::open_text), using(md_examine::proofs::Puts::puts_then))]
+#[tactic(auto, unfolding(crate::specs::AsJson::Objects::open_text), using(md_streams::proofs::Puts::puts_then))]
 pub fn open<S: Sink>(out: &mut S, kind: &str) -> Result<(), SinkFault>
     ensures { PutsOrFails S.contents S.failed out.old out.new (open_text kind.now) result }
 {
@@ -36,7 +37,7 @@ pub fn close<S: Sink>(out: &mut S) -> Result<(), SinkFault>
 }
 
 /// A name and its colon.
-#[tactic(auto, using(md_examine::proofs::Puts::puts_then))]
+#[tactic(auto, using(md_streams::proofs::Puts::puts_then))]
 pub(crate) fn key<S: Sink>(out: &mut S, name: &str) -> Result<(), SinkFault>
     ensures { PutsOrFails S.contents S.failed out.old out.new (key_text name.now) result }
 {
@@ -46,7 +47,7 @@ pub(crate) fn key<S: Sink>(out: &mut S, name: &str) -> Result<(), SinkFault>
 }
 
 /// Begins a field: a comma, its name, and a colon.
-#[tactic(auto, using(md_examine::proofs::Puts::puts_then))]
+#[tactic(auto, using(md_streams::proofs::Puts::puts_then))]
 pub fn next_key<S: Sink>(out: &mut S, name: &str) -> Result<(), SinkFault>
     ensures { PutsOrFails S.contents S.failed out.old out.new (44 ∷ key_text name.now) result }
 {
@@ -56,7 +57,7 @@ pub fn next_key<S: Sink>(out: &mut S, name: &str) -> Result<(), SinkFault>
 }
 
 /// A value that is written as it stands.
-#[tactic(auto, unfolding(crate::specs::AsJson::Objects::next_text), using(md_examine::proofs::Puts::puts_then))]
+#[tactic(auto, unfolding(crate::specs::AsJson::Objects::next_text), using(md_streams::proofs::Puts::puts_then))]
 pub(crate) fn next_plain<S: Sink>(out: &mut S, name: &str, value: &[u8]) -> Result<(), SinkFault>
     ensures { PutsOrFails S.contents S.failed out.old out.new (next_text name.now value.now) result }
 {
@@ -66,7 +67,7 @@ pub(crate) fn next_plain<S: Sink>(out: &mut S, name: &str, value: &[u8]) -> Resu
 }
 
 /// A field whose value is a text.
-#[tactic(auto, unfolding(crate::specs::AsJson::Objects::next_text), using(md_examine::proofs::Puts::puts_then))]
+#[tactic(auto, unfolding(crate::specs::AsJson::Objects::next_text), using(md_streams::proofs::Puts::puts_then))]
 pub fn next_text<S: Sink>(out: &mut S, name: &str, text: &[u8]) -> Result<(), SinkFault>
     ensures { PutsOrFails S.contents S.failed out.old out.new
         (next_text name.now (quoted text.now)) result }
@@ -110,7 +111,7 @@ pub(crate) fn number<S: Sink, I: Integer>(out: &mut S, n: I) -> Result<(), SinkF
 }
 
 /// Opens an object within a report, whose first field is a number.
-#[tactic(auto, using(md_examine::proofs::Puts::puts_then))]
+#[tactic(auto, using(md_streams::proofs::Puts::puts_then))]
 pub fn open_number<S: Sink, I: Integer>(out: &mut S, name: &str, n: I) -> Result<(), SinkFault>
     ensures { PutsOrFails S.contents S.failed out.old out.new
         (123 ∷ (key_text name.now ++ I.text n)) result }
@@ -144,7 +145,7 @@ pub(crate) fn chosen_number<S: Sink>(
     number_element(out, later, n)
 }
 
-#[tactic(auto, using(md_examine::proofs::Puts::puts_then))]
+#[tactic(auto, using(md_streams::proofs::Puts::puts_then))]
 fn number_element<S: Sink>(out: &mut S, later: bool, n: usize) -> Result<(), SinkFault>
     ensures { PutsOrFails S.contents S.failed out.old out.new
         (comma_if later ++ compact_text (whole n)) result }

@@ -1,13 +1,14 @@
 // The report of a check.
 ghost use Rattle.std.specs.Prelude.{◌≡◌, ◌<◌, ◌≤◌};
 ghost use Rattle.std.specs.List.{All, flat_map, range_with_len};
-ghost use Rattle.md_check.specs.Differences.{IsSized};
-ghost use Rattle.md_examine.specs.Sink.{PutsOrFails};
+ghost use Rattle.md_collect.specs.Found.{IsSized};
+ghost use Rattle.md_streams.specs.Sink.{PutsOrFails};
 ghost use Rattle.md_report.specs.AsText.CheckReport.{check_text, chunk_line, chunk_text, list_text, pair_in, pair_text};
 
 use md_bitmap::Chunks;
-use md_check::{Comparison, Pair};
-use md_examine::{Sink, SinkFault, number_after, right_aligned_number};
+use md_collect::{Comparison, Pair};
+use md_examine::right_aligned_number;
+use md_streams::{Sink, SinkFault, number_after};
 
 /// Writes one line: in how many chunks members in sync differ. It takes no memory, and fails only where the
 /// sink has failed.
@@ -102,7 +103,7 @@ fn pair_where_set<S: Sink>(out: &mut S, pair: &Pair, c: u32) -> Result<(), SinkF
 }
 
 // Two members that differ.
-#[tactic(auto, unfolding(crate::specs::AsText::CheckReport::pair_text), using(md_examine::proofs::Puts::puts_then))]
+#[tactic(auto, unfolding(crate::specs::AsText::CheckReport::pair_text), using(md_streams::proofs::Puts::puts_then))]
 fn members<S: Sink>(out: &mut S, one: usize, other: usize) -> Result<(), SinkFault>
     ensures { PutsOrFails S.contents S.failed out.old out.new (pair_text one other) result }
 {

@@ -13,4 +13,4 @@ pub(crate) use rebuilds::besides;
 pub use rebuilds::{
     plan_report, rebuilt_line_report, rebuilt_report, salvaged_line_report, salvaged_report,
 };
-pub use whole_array::{detail, members_in_sync, summary, verbose_detail};
+pub use whole_array::{detail, summary, verbose_detail};

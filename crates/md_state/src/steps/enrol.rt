@@ -87,7 +87,8 @@ impl Array {
             (RefusesMadeMember k (in_chunks_but self.now.chunks missing.now lost.now) (in_runs lost.now) self.now) }
     {
         let member = &self.members[k];
-        let Ok(list) = list_but_for(alloc, member, self.chunks, missing, lost) else {
+        let offset = member.superblock.data_offset;
+        let Ok(list) = list_but_for(alloc, &member.bad, offset, self.chunks, missing, lost) else {
             return Err(EnrolFault::NoMemory);
         };
         if list.entries_needed() > log_room(&member.superblock) {

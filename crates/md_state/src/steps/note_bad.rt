@@ -52,7 +52,8 @@ impl Array {
         requires { k < length self.old.members }
         ensures { MatchResult result (λ _. ListsMore k (in_runs sectors.now) self.old self.new) (λ _. self.new ≡ self.old) }
     {
-        let list = list_with_sectors(alloc, &self.members[k], sectors)?;
+        let member = &self.members[k];
+        let list = list_with_sectors(alloc, &member.bad, member.superblock.data_offset, sectors)?;
         self.set_list(k, list);
         Ok(())
     }
@@ -90,7 +91,8 @@ impl Array {
             return Err(NoteFault::Halted);
         }
         let member = &self.members[k];
-        let Ok(list) = list_with_sectors(alloc, member, sectors) else {
+        let offset = member.superblock.data_offset;
+        let Ok(list) = list_with_sectors(alloc, &member.bad, offset, sectors) else {
             return Err(NoteFault::NoMemory);
         };
         if list.entries_needed() > log_room(&member.superblock) {

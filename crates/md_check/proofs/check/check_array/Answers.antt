@@ -1,7 +1,7 @@
 use Rattle.std.proofs.Common.{◌∙◌, ap, length, arith}
 use Rattle.std.specs.Int.{div_ceil}
 use Rattle.md_bitmap.specs.declared.chunks.Chunks.{Chunks}
-use Rattle.md_check.specs.declared.found.Comparison.{Comparison}
+use Rattle.md_collect.specs.declared.found.Comparison.{Comparison}
 use Rattle.md_check.proofs.MemberReaders.{counts_set, finds}
 use Rattle.md_check.proofs.check.check_array.Goals as goal
 

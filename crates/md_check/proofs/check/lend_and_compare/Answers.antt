@@ -5,7 +5,8 @@ use Rattle.md_state.specs.DeviceChanges.{EachPair}
 use Rattle.md_state.specs.View.{Disk, MirrorView, disk_of}
 use Rattle.md_array.specs.Worlds as worlds
 use Rattle.md_check.specs.declared.reader.Reader.{Reader}
-use Rattle.md_check.specs.Differences.{AreCompared, IsSized}
+use Rattle.md_check.specs.Differences.{AreCompared}
+use Rattle.md_collect.specs.Found.{IsSized}
 use Rattle.md_check.specs.Readings.{MissesIn}
 use Rattle.md_check.specs.Readers.{HasDataOnDevice, ReaderShows, on_device}
 use Rattle.md_check.specs.Told.{IsToldOfReader}

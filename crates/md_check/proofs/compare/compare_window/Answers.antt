@@ -1,5 +1,5 @@
 use Rattle.std.proofs.Common.{◌≡◌, ◌+◌, ℕ, sym, subst, arith}
-use Rattle.md_check.specs.declared.found.Comparison.{Comparison}
+use Rattle.md_collect.specs.declared.found.Comparison.{Comparison}
 use Rattle.md_check.specs.Differences.{AddsCompared, DifferIn}
 use Rattle.md_check.specs.Readers.{ReaderShows, in_window}
 use Rattle.md_check.proofs.Compared.{compared_as_was, compared_then}

@@ -1,7 +1,8 @@
 use Rattle.std.proofs.Common.{◌≡◌, ◌∙◌, ◌+◌, ◌<◌, length, get_or, subst, sym, inl, inr, arith, length-set}
 use Rattle.std.proofs.lemmas.List.{get_or_default, get_or-set_other, get_or-set_same}
-use Rattle.md_check.specs.declared.found.Pair.{Pair}
-use Rattle.md_check.specs.Differences.{AddsToPair, IsPairSized}
+use Rattle.md_collect.specs.declared.found.Pair.{Pair}
+use Rattle.md_check.specs.Differences.{AddsToPair}
+use Rattle.md_collect.specs.Found.{IsPairSized}
 use Rattle.md_check.specs.Readers.{ReaderShows, in_window}
 use Rattle.md_check.proofs.Compared.{same_or_other}
 use Rattle.md_check.proofs.compare.mark_pairs.Goals as goal

@@ -4,8 +4,9 @@ use Rattle.std.specs.List.{flat_map, range_with_len}
 use Rattle.std.specs.Prelude.{if◌then◌else◌}
 use Rattle.std.proofs.lemmas.List.{map_push}
 use Rattle.std.proofs.lemmas.List.Elements.{All-push}
-use Rattle.md_check.specs.declared.found.Pair.{Pair}
-use Rattle.md_check.specs.Differences.{IsEmptySet, IsPairSized}
+use Rattle.md_collect.specs.declared.found.Pair.{Pair}
+use Rattle.md_check.specs.Differences.{IsEmptySet}
+use Rattle.md_collect.specs.Found.{IsPairSized}
 use Rattle.md_check.specs.Pairs.{pair_names, pair_of}
 use Rattle.md_check.proofs.PairsInTurn.{flat_map_next}
 use Rattle.md_check.proofs.pairs.add_pairs.Goals as goal

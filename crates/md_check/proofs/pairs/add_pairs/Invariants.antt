@@ -1,6 +1,7 @@
 use Rattle.std.proofs.Common.{◌≡◌, ◌++◌}
 use Rattle.std.specs.List.{All, flat_map, range_with_len}
-use Rattle.md_check.specs.Differences.{IsEmptySet, IsPairSized}
+use Rattle.md_check.specs.Differences.{IsEmptySet}
+use Rattle.md_collect.specs.Found.{IsPairSized}
 use Rattle.md_check.specs.Pairs.{pair_names, pair_of}
 use Rattle.md_check.proofs.pairs.add_pairs.Given as goal
 

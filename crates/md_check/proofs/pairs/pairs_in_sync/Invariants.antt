@@ -1,6 +1,7 @@
 use Rattle.std.proofs.Common.{◌≡◌, length}
 use Rattle.std.specs.List.{All, flat_map, range_with_len}
-use Rattle.md_check.specs.Differences.{IsEmptySet, IsPairSized}
+use Rattle.md_check.specs.Differences.{IsEmptySet}
+use Rattle.md_collect.specs.Found.{IsPairSized}
 use Rattle.md_check.specs.Pairs.{pair_names, pairs_with}
 use Rattle.md_check.proofs.pairs.pairs_in_sync.Given as goal
 

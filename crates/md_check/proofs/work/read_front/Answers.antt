@@ -27,8 +27,8 @@ returns-in-Ok-clause-gave g c = λ honest.
     let most = c.clear_run-run.ensures.most in
     let few : 512 * run ≤ length xs = omega (arith, most, c.min-most.ensures) in
     let long : length (take (512 * run) xs) ≡ 512 * run = length-take-le (512 * run) xs few in
-    front_read (g.D.Device.content c.args.device.now) c.args.offset c.args.listed.now c.args.sector run xs ys
-    (c.in-Ok.ensures.gave honest ∙ ap (held (g.D.Device.content c.args.device.now) (c.args.offset + c.args.sector)) long)
+    front_read (g.D.Device.content c.args.device.now) c.args.member.now.offset c.args.member.now.listed.now c.args.sector run xs ys
+    (c.in-Ok.ensures.gave honest ∙ ap (held (g.D.Device.content c.args.device.now) (c.args.member.now.offset + c.args.sector)) long)
     (c.read_run-answer.auto.buf ∙ long)
 
 pub returns-in-Err-clause-missed : goal.returns-in-Err-clause-missed
@@ -44,7 +44,7 @@ returns-in-Err-clause-missed g c =
       not_before = omega arith;
       before = omega arith;
       inside = subst (λ n. InChunk chunks.sectors chunks.size n sector) (sym c.chunk_of-chunk.ensures.is) (in_its_chunk chunks.sectors chunks.size sector chunks.chunking.some_sectors within);
-      unlisted = subst (λ n. IsBad c.args.listed.now n → ⊥) first (c.clear_run-run.ensures.clear 0 (let run = c.if-run-eq0.false in omega arith));
+      unlisted = subst (λ n. IsBad c.args.member.now.listed.now n → ⊥) first (c.clear_run-run.ensures.clear 0 (let run = c.if-run-eq0.false in omega arith));
     }
 
 pub returns-in-Err-clause-there : goal.returns-in-Err-clause-there
@@ -66,7 +66,7 @@ returns-in-Err-clause-there g c =
     let from = here.from in
     let least = c.min-most.ensures in
     let positive : 0 < run = (let not = c.if-run-eq0.false in omega arith) in
-    run_failed (g.D.Device.faults c.args.device.now) (g.D.Device.faults c.read_run-answer.new.device) c.args.offset chunk chunks (IsBad c.args.listed.now) sector run (length (take (512 * run) xs))
+    run_failed (g.D.Device.faults c.args.device.now) (g.D.Device.faults c.read_run-answer.new.device) c.args.member.now.offset chunk chunks (IsBad c.args.member.now.listed.now) sector run (length (take (512 * run) xs))
     c.in-Err.ensures.there from (omega (arith, most, least, ends, at, from, positive)) positive long c.clear_run-run.ensures.clear
 
 pub returns-in-Ok-clause-told : goal.returns-in-Ok-clause-told
@@ -81,6 +81,6 @@ returns-in-Ok-clause-told g c =
     let from = (c.range-start.ensures.sectors sector).0 here in
     let most = c.clear_run-run.ensures.most in
     let least = c.min-most.ensures in
-    told_run g.G.Gate c.args.gate.now c.args.role chunks c.args.listed.now sector c.clear_run-run.result chunk
+    told_run g.G.Gate c.args.gate.now c.args.member.now.role chunks c.args.member.now.listed.now sector c.clear_run-run.result chunk
     (λ s up below. (c.range-start.ensures.sectors s).1 (omega (arith, from.0, up), omega (arith, most, least, below)))
     (record { begins = c.before_read.ensures; ended = c.after_read.ensures })

@@ -32,14 +32,14 @@ loop-done-preserved g c =
       only_read = read_then inv.only_read c.read_front.ensures.only_read;
       unfailing = c.in_ok-passed.ensures.unfailing ∙ inv.unfailing;
       gave = λ honest.
-          more_read content c.args.offset c.args.listed.now part.from done part.sectors passed xs ys (omega arith) (omega arith) as_long (omega arith) (inv.gave honest)
-          (subst (λ (held_there : List ℕ). HasUnlisted held_there c.args.offset c.args.listed.now (part.from + done) passed ys) inv.only_read.content_kept
+          more_read content c.args.member.now.offset c.args.member.now.listed.now part.from done part.sectors passed xs ys (omega arith) (omega arith) as_long (omega arith) (inv.gave honest)
+          (subst (λ (held_there : List ℕ). HasUnlisted held_there c.args.member.now.offset c.args.member.now.listed.now (part.from + done) passed ys) inv.only_read.content_kept
           (c.in_ok-passed.ensures.gave (inv.only_read.honest_kept ∙ honest)));
-      told = told_then g.G.Gate c.args.gate.now c.args.role c.args.chunks c.args.listed.now part.from done (part.from + done) passed (done + passed) refl refl inv.told c.in_ok-passed.ensures.told;
+      told = told_then g.G.Gate c.args.gate.now c.args.member.now.role c.args.chunks c.args.member.now.listed.now part.from done (part.from + done) passed (done + passed) refl refl inv.told c.in_ok-passed.ensures.told;
     }
 
 pub returns-in_err-passed-clause-there : goal.returns-in_err-passed-clause-there
 returns-in_err-passed-clause-there g c =
     let p = err_from_is_err_and c.from_residual.result c.from_residual.ensures.1 in
     rw (p.1, p.2)
-    (chunk_since g.D.Device c.args.device.now c.loop-done.device c.read_front.new.device c.args.offset c.args.chunks (IsBad c.args.listed.now) c.in_err-passed.field-0.0 c.loop-done.invariant.only_read c.in_err-passed.ensures.there)
+    (chunk_since g.D.Device c.args.device.now c.loop-done.device c.read_front.new.device c.args.member.now.offset c.args.chunks (IsBad c.args.member.now.listed.now) c.in_err-passed.field-0.0 c.loop-done.invariant.only_read c.in_err-passed.ensures.there)

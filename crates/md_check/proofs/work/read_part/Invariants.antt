@@ -13,6 +13,6 @@ invariant-loop-done g l = record {
   few : l.done ≤ l.part.sectors;
   only_read : OnlyRead g.D.Device l.fn.device l.device;
   unfailing : g.D.Device.failures l.device ≡ g.D.Device.failures l.fn.device;
-  gave : g.D.Device.honest l.fn.device ≡ true → HasUnlisted (g.D.Device.content l.fn.device) l.offset l.listed l.part.from l.done l.buf;
-  told : IsToldOfSectors g.G.Gate l.gate l.role l.chunks l.listed l.part.from l.done;
+  gave : g.D.Device.honest l.fn.device ≡ true → HasUnlisted (g.D.Device.content l.fn.device) l.member.offset l.member.listed.now l.part.from l.done l.buf;
+  told : IsToldOfSectors g.G.Gate l.gate l.member.role l.chunks l.member.listed.now l.part.from l.done;
 }

@@ -1,6 +1,6 @@
 use Rattle.std.proofs.Common.{◌≡◌, ◌∙◌, false, List, Err, map, ap, subst, inr, refl, rules}
 use Rattle.md_images.specs.declared.access.Access.TheVariants.{Change}
-use Rattle.md_commands.specs.Faults.{of_images}
+use Rattle.md_refusals.specs.Faults.{of_images}
 use Rattle.md_images.specs.Taking.{RefusesImages, Word, image_list, word_of}
 use Rattle.md_messages.specs.Telling.{texts}
 use Rattle.md_cli.specs.Arrays.{may}

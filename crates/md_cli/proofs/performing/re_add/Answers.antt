@@ -1,5 +1,5 @@
 use Rattle.std.proofs.Common.{◌≡◌, MatchResult, Result, Some, codes, option_map, rules, subst}
-use Rattle.md_commands.specs.declared.fault.CommandFault.{CommandFault}
+use Rattle.md_refusals.specs.declared.fault.CommandFault.{CommandFault}
 use Rattle.md_commands.specs.Objects.{summary_shown}
 use Rattle.md_commands.specs.ReAdding.{ReAddsDevice, RefusesToReAdd}
 use Rattle.md_commands.specs.Stopping.{StopsArrayAfter}

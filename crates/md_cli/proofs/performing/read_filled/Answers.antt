@@ -1,5 +1,5 @@
 use Rattle.std.proofs.Common.{◌≡◌, Option, rules, subst}
-use Rattle.md_read_commands.specs.declared.gaps.Gaps.{Gaps}
+use Rattle.md_streams.specs.declared.gaps.Gaps.{Gaps}
 use Rattle.md_cli.specs.Performing.{JoinsEarlier}
 use Rattle.md_cli.proofs.ReadOn.{flushed_on}
 use Rattle.md_cli.proofs.performing.read_filled.Goals as goal

@@ -113,9 +113,8 @@ returns-clause-taken g c taken other =
           call.ensures.gives
       | in-Grow w ↦
           let call = w.grow_array-outcome in
-          let session = record c.args.session.now { out = call.new.out } in
-          stands_so i d g.R.Source g.S.Sink g.A.Asker random lacking kind names c.args.images.now old own (command.Grow w.in-Grow.bitmap w.in-Grow.chunk) call.new.images acted.images session acted.session first acted.notices call.result acted.outcome w.in-Grow.is w.images-is w.session-is w.notices-is w.outcome-is
-          (refl, call.ensures.gives)
+          stands_so i d g.R.Source g.S.Sink g.A.Asker random lacking kind names c.args.images.now old own (command.Grow w.in-Grow.bitmap w.in-Grow.chunk) call.new.images acted.images call.new.session acted.session call.new.notices acted.notices call.result acted.outcome w.in-Grow.is w.images-is w.session-is w.notices-is w.outcome-is
+          call.ensures.gives
       | in-Array w ↦
           let call = w.with_array-outcome in
           stands_so i d g.R.Source g.S.Sink g.A.Asker random lacking kind names c.args.images.now old own (command.Array w.in-Array.command) call.new.images acted.images call.new.session acted.session call.new.notices acted.notices call.result acted.outcome w.in-Array.is w.images-is w.session-is w.notices-is w.outcome-is

@@ -1,8 +1,8 @@
 use Rattle.std.proofs.Common.{Result, subst, sym}
-use Rattle.md_commands.specs.declared.fault.CommandFault.{CommandFault}
+use Rattle.md_refusals.specs.declared.fault.CommandFault.{CommandFault}
 use Rattle.md_words.specs.Asks.{ask_of}
 use Rattle.md_messages.specs.Telling.{TellsNoticed, texts}
-use Rattle.md_messages.proofs.Told.{told_or_failed}
+use Rattle.md_streams.proofs.Puts.{told_or_failed}
 use Rattle.md_cli.proofs.running.tell_outcome.Goals as goal
 
 pub returns-in-Ok : goal.returns-in-Ok

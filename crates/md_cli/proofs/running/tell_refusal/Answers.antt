@@ -1,4 +1,4 @@
-use Rattle.md_messages.proofs.Told.{told_or_failed}
+use Rattle.md_streams.proofs.Puts.{told_or_failed}
 use Rattle.md_cli.proofs.running.tell_refusal.Goals as goal
 
 pub returns : goal.returns

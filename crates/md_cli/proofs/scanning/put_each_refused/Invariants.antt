@@ -1,6 +1,6 @@
 use Rattle.std.proofs.Common.{take}
 use Rattle.std.specs.List.{flat_map}
-use Rattle.md_examine.specs.Sink.{Puts}
+use Rattle.md_streams.specs.Sink.{Puts}
 use Rattle.md_cli.specs.Scanning.{unshown_text}
 use Rattle.md_cli.proofs.scanning.put_each_refused.Given as goal
 

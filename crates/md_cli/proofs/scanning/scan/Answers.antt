@@ -1,5 +1,5 @@
 use Rattle.std.proofs.Common.{inl, inr, refl}
-use Rattle.md_messages.proofs.Told.{told_or_failed}
+use Rattle.md_streams.proofs.Puts.{told_or_failed}
 use Rattle.md_cli.proofs.scanning.scan.Goals as goal
 
 pub returns-in-Ok-clause-scans : goal.returns-in-Ok-clause-scans

@@ -1,9 +1,9 @@
 use Rattle.std.proofs.Common.{◌∙◌, List, subst, sym}
 use Rattle.md_examine_commands.specs.declared.scan.refused.Refused.{Refused}
-use Rattle.md_messages.specs.Telling.{PutsTold}
+use Rattle.md_streams.specs.Putting.{PutsTold}
 use Rattle.md_cli.specs.Scanning.{unshown_lines}
 use Rattle.md_cli.proofs.Scanned.{flushed_if_found}
-use Rattle.md_messages.proofs.Told.{told_or_failed}
+use Rattle.md_streams.proofs.Puts.{told_or_failed}
 use Rattle.md_cli.proofs.scanning.show_looked.Goals as goal
 
 pub returns-clause-shows : goal.returns-clause-shows

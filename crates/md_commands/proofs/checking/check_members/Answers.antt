@@ -1,6 +1,6 @@
 use Rattle.std.proofs.Common.{refl}
 use Rattle.md_commands.proofs.Checked.{checked_or_not, pending_stays}
-use Rattle.md_commands.proofs.Wrapped.{own_ok, own_on_ok}
+use Rattle.md_refusals.proofs.Wrapped.{own_ok, own_on_ok}
 use Rattle.md_commands.proofs.checking.check_members.Goals as goal
 
 pub returns-in_err-mismatched-clause-pending : goal.returns-in_err-mismatched-clause-pending

@@ -1,12 +1,15 @@
 use Rattle.std.proofs.Common.{◌≡◌, MatchResult, refl, subst, sym}
 use Rattle.md_bitmap.specs.Marks.{count_set}
-use Rattle.md_check.specs.Differences.{IsSized}
+use Rattle.md_collect.specs.Found.{IsSized}
 use Rattle.md_report.specs.AsJson.WholeArray.MemberObjects.{texts_of}
+use Rattle.md_state.specs.Requests.{IsPending}
 use Rattle.md_state.specs.View.{ArrayView}
 use Rattle.md_commands.specs.Objects.{checked_line}
-use Rattle.md_commands.specs.Output.{FailsOutput, PutsOut}
+use Rattle.md_refusals.specs.Output.{FailsOutput}
+use Rattle.md_streams.specs.Putting.{PutsOut}
+use Rattle.md_commands.proofs.Checked.{refused_stays}
 use Rattle.md_commands.proofs.Listed.{found_sized, listed_or_not}
-use Rattle.md_commands.proofs.Wrapped.{own_ok, own_on_ok}
+use Rattle.md_refusals.proofs.Wrapped.{own_err, own_ok, own_on_ok}
 use Rattle.md_commands.proofs.checking.check_members_json.Goals as goal
 
 pub put_check_json-requires : goal.put_check_json-requires
@@ -14,6 +17,11 @@ put_check_json-requires g c =
     let compares = own_ok _ _ _ c.compare_members.result _ _ c.compare_members.ensures.gives c.in_ok-found.ensures.cases c.in_ok-found.ensures.variant refl in
     subst (λ (a : ArrayView). IsSized a.chunks c.in_ok-found.found) (sym compares.finds.rests.array)
     (found_sized c.args.mirror.now c.compare_members.new.mirror c.in_ok-found.found c.requires.sound compares)
+
+pub returns-in_err-found-clause-pending : goal.returns-in_err-found-clause-pending
+returns-in_err-found-clause-pending g c p is =
+    let own = own_err _ _ _ c.compare_members.result _ _ c.compare_members.ensures.gives c.in_err-found.ensures.cases refl in
+    subst (λ (a : ArrayView). IsPending a p) (sym (refused_stays own.0 c.args.mirror.now c.compare_members.new.mirror own.1)) is
 
 pub returns-clause-gives : goal.returns-clause-gives
 returns-clause-gives g c =

@@ -1,6 +1,6 @@
 use Rattle.std.proofs.Common.{rules, ◌≡◌, refl}
 use Rattle.std.specs.Prelude.{Err}
-use Rattle.md_commands.specs.declared.fault.CommandFault.TheVariants.{BadMember}
+use Rattle.md_refusals.specs.declared.fault.CommandFault.TheVariants.{BadMember}
 use Rattle.md_commands.proofs.failing.fail_named.Goals as goal
 
 pub returns-in_err-k-clause-gives : goal.returns-in_err-k-clause-gives

@@ -1,5 +1,5 @@
 use Rattle.std.proofs.Common.{◌+◌, ◌*◌, ◌-◌, ◌≤◌, length}
-use Rattle.md_commands.specs.Source.{Gives}
+use Rattle.md_streams.specs.Source.{Gives}
 use Rattle.md_commands.proofs.input.read_pieces.Given as goal
 
 abbrev pub invariant-loop-input : goal.invariant-loop-input

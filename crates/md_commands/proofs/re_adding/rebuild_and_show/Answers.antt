@@ -1,9 +1,9 @@
 use Rattle.std.proofs.Common.{rules, ◌≡◌, refl}
 use Rattle.std.specs.Prelude.{Err}
-use Rattle.md_commands.specs.declared.fault.CommandFault.TheVariants.{Rebuild}
+use Rattle.md_refusals.specs.declared.fault.CommandFault.TheVariants.{Rebuild}
 use Rattle.md_report.specs.AsText.WholeArray.SummaryReport.{summary_text}
 use Rattle.md_commands.proofs.Rebuilt.{shown_or_not}
-use Rattle.md_commands.proofs.Wrapped.{own_err, own_ok}
+use Rattle.md_refusals.proofs.Wrapped.{own_err, own_ok}
 use Rattle.md_commands.proofs.re_adding.rebuild_and_show.Goals as goal
 
 pub returns-in_err-rebuilt-clause-gives : goal.returns-in_err-rebuilt-clause-gives

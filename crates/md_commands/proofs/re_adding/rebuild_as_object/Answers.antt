@@ -1,10 +1,10 @@
 use Rattle.std.proofs.Common.{rules, ◌≡◌, refl}
 use Rattle.std.specs.Prelude.{Err, codes}
-use Rattle.md_commands.specs.declared.fault.CommandFault.TheVariants.{Rebuild}
+use Rattle.md_refusals.specs.declared.fault.CommandFault.TheVariants.{Rebuild}
 use Rattle.md_report.specs.AsJson.WholeArray.MemberObjects.{texts_of}
 use Rattle.md_commands.specs.Objects.{summary_line}
 use Rattle.md_commands.proofs.Rebuilt.{shown_or_not}
-use Rattle.md_commands.proofs.Wrapped.{own_err, own_ok}
+use Rattle.md_refusals.proofs.Wrapped.{own_err, own_ok}
 use Rattle.md_commands.proofs.re_adding.rebuild_as_object.Goals as goal
 
 pub returns-in_err-rebuilt-clause-gives : goal.returns-in_err-rebuilt-clause-gives

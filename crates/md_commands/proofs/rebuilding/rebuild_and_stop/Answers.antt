@@ -1,7 +1,7 @@
 use Rattle.std.proofs.Common.{rules, ◌≡◌, refl}
 use Rattle.std.specs.Prelude.{Err}
-use Rattle.md_commands.specs.declared.fault.CommandFault.TheVariants.{Rebuild, Stop}
-use Rattle.md_commands.proofs.Wrapped.{own_err, own_ok}
+use Rattle.md_refusals.specs.declared.fault.CommandFault.TheVariants.{Rebuild, Stop}
+use Rattle.md_refusals.proofs.Wrapped.{own_err, own_ok}
 use Rattle.md_commands.proofs.rebuilding.rebuild_and_stop.Goals as goal
 
 pub returns-in_err-rebuilt-clause-gives : goal.returns-in_err-rebuilt-clause-gives

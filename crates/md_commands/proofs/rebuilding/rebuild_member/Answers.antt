@@ -1,6 +1,6 @@
 use Rattle.std.proofs.Common.{rules, ◌≡◌, ℕ, length, refl, subst}
 use Rattle.std.specs.Prelude.{Err, ◌<◌}
-use Rattle.md_commands.specs.declared.fault.CommandFault.TheVariants.{BadMember}
+use Rattle.md_refusals.specs.declared.fault.CommandFault.TheVariants.{BadMember}
 use Rattle.md_commands.specs.Rebuilding.{RebuildsResynced, RefusesReadied, rebuilt_shown}
 use Rattle.md_commands.specs.Stopping.{StopsAfter}
 use Rattle.md_commands.proofs.Rebuilt.{not_rebuilt, rebuilt_or_not}

@@ -1,9 +1,9 @@
 use Rattle.std.proofs.Common.{rules, ◌≡◌, refl}
 use Rattle.std.specs.Prelude.{Err}
-use Rattle.md_commands.specs.declared.fault.CommandFault.TheVariants.{Stop}
+use Rattle.md_refusals.specs.declared.fault.CommandFault.TheVariants.{Stop}
 use Rattle.md_resync.specs.Resyncing.{Resyncs}
 use Rattle.md_commands.specs.Stopping.{StopsAfter}
-use Rattle.md_commands.proofs.Wrapped.{own_err, own_ok}
+use Rattle.md_refusals.proofs.Wrapped.{own_err, own_ok}
 use Rattle.md_commands.proofs.Resynced.{resynced_or_not}
 use Rattle.md_commands.proofs.resyncing.resync_array.Goals as goal
 

@@ -1,6 +1,6 @@
 use Rattle.std.proofs.Common.{rules, ◌≡◌, ℕ, length, refl, subst}
 use Rattle.std.specs.Prelude.{Err, ◌<◌}
-use Rattle.md_commands.specs.declared.fault.CommandFault.TheVariants.{BadMember}
+use Rattle.md_refusals.specs.declared.fault.CommandFault.TheVariants.{BadMember}
 use Rattle.md_commands.specs.Salvaging.{SalvagesResynced, RefusesSalvaging, salvaged_shown}
 use Rattle.md_commands.specs.Stopping.{StopsAfter}
 use Rattle.md_commands.proofs.Salvaged.{not_salvaged, salvaged_or_not}

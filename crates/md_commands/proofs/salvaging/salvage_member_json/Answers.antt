@@ -1,8 +1,7 @@
 use Rattle.std.proofs.Common.{rules, ◌≡◌, ℕ, length, refl, subst}
 use Rattle.std.specs.Prelude.{Err, ◌<◌}
-use Rattle.md_commands.specs.declared.fault.CommandFault.TheVariants.{BadMember}
-use Rattle.md_commands.specs.Salvaging.{salvaged_object_line}
-use Rattle.md_commands.specs.Salvaging.{SalvagesResynced, RefusesSalvaging}
+use Rattle.md_refusals.specs.declared.fault.CommandFault.TheVariants.{BadMember}
+use Rattle.md_commands.specs.Salvaging.{salvaged_object_line, SalvagesResynced, RefusesSalvaging}
 use Rattle.md_commands.specs.Stopping.{StopsAfter}
 use Rattle.md_commands.proofs.Salvaged.{not_salvaged, salvaged_or_not}
 use Rattle.md_commands.proofs.salvaging.salvage_member_json.Goals as goal

@@ -1,8 +1,8 @@
 use Rattle.std.proofs.Common.{rules, Ok, Err, ◌≡◌, ◌∙◌, ℕ, Option, true, false, refl, inl, ap, sym, subst}
-use Rattle.md_commands.specs.declared.fault.CommandFault.TheVariants.{Stop}
+use Rattle.md_refusals.specs.declared.fault.CommandFault.TheVariants.{Stop}
 use Rattle.md_commands.specs.ToldLength.{MayBeRead, MayBeTaken, RefusesKnown, known_length}
 use Rattle.md_commands.specs.Writing.{IsToldOfLength, RefusesWriting, WritesInput}
-use Rattle.md_commands.proofs.Wrapped.{own_err, own_ok}
+use Rattle.md_refusals.proofs.Wrapped.{own_err, own_ok}
 use Rattle.md_commands.proofs.Written.{on_ok, pieces_or_not, refused_known, refused_writing, told_of_none, written_or_not}
 use Rattle.md_commands.proofs.writing.write_array.Goals as goal
 use Rattle.md_commands.proofs.writing.write_array.Goals.{in-Some+in_ok-write_in_pieces-in-Some, in-None+in_ok-write_at_once-in-None}

@@ -1,7 +1,7 @@
 use Rattle.std.proofs.Common.{rules, ◌≡◌, refl}
 use Rattle.std.specs.Prelude.{Err}
-use Rattle.md_commands.specs.declared.fault.CommandFault.TheVariants.{Write}
-use Rattle.md_commands.proofs.Wrapped.{own_err, own_ok}
+use Rattle.md_refusals.specs.declared.fault.CommandFault.TheVariants.{Write}
+use Rattle.md_refusals.proofs.Wrapped.{own_err, own_ok}
 use Rattle.md_commands.proofs.writing.write_bytes.Goals as goal
 
 pub returns-in_err-map_err-2-clause-gives : goal.returns-in_err-map_err-2-clause-gives

@@ -1,8 +1,8 @@
 use Rattle.std.proofs.Common.{rules, Err, ◌≡◌, length, refl}
 use Rattle.std.proofs.lemmas.Bool.{eq-eqb, eqb-true}
-use Rattle.md_commands.specs.declared.fault.CommandFault.TheVariants.{Write}
+use Rattle.md_refusals.specs.declared.fault.CommandFault.TheVariants.{Write}
 use Rattle.md_commands.proofs.PiecesWritten.{begun, not_readied, not_taken, not_written}
-use Rattle.md_commands.proofs.Wrapped.{own_err, own_ok}
+use Rattle.md_refusals.proofs.Wrapped.{own_err, own_ok}
 use Rattle.md_commands.proofs.writing_pieces.begin_pieces.Goals as goal
 
 pub returns-in_err-take_piece-clause-gives : goal.returns-in_err-take_piece-clause-gives

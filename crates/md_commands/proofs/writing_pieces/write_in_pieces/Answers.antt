@@ -1,9 +1,9 @@
 use Rattle.std.proofs.Common.{rules, Err, ◌≡◌, ◌∙◌, ℕ, ◌+◌, ◌*◌, ◌-◌, ◌/◌, ◌<◌, ◌≤◌, length, min, refl, sym, ap, subst, arith, eqb}
 use Rattle.std.proofs.lemmas.Bool.{eq-eqb, eqb-true}
-use Rattle.md_commands.specs.declared.fault.CommandFault.TheVariants.{NoPieceMemory, Write}
+use Rattle.md_refusals.specs.declared.fault.CommandFault.TheVariants.{NoPieceMemory, Write}
 use Rattle.md_commands.specs.WritingPieces.{FailsToTakePiece, most_at_once, sectors_at_once}
 use Rattle.md_commands.proofs.PiecesWritten.{WrittenSoFar, at_once_few, at_once_most, buffer_stays, front_long, not_taken_later, not_written_later, written_first, written_more}
-use Rattle.md_commands.proofs.Wrapped.{own_err, own_ok}
+use Rattle.md_refusals.proofs.Wrapped.{own_err, own_ok}
 use Rattle.md_commands.proofs.Written.{told_of_none}
 use Rattle.md_commands.proofs.writing_pieces.write_in_pieces.Goals as goal
 

@@ -6,6 +6,7 @@ use Rattle.md_bitmap.specs.declared.chunks.Chunks.{Chunks}
 use Rattle.std.proofs.lemmas.Option.{slice_get_within}
 use Rattle.md_copy.proofs.Ready.Lowered.{lowered_then}
 use Rattle.md_copy.proofs.Ready.Readied.{may_lowered}
+use Rattle.md_copy.proofs.SalvageLemmas.WholePass.{may_leave_of}
 use Rattle.md_copy.proofs.Steps.Answered.{rebuilds, refused_at_once, refused_readied, refused_ready, refused_set}
 use Rattle.md_copy.proofs.Steps.Begun.{begins, ready_then, set_ready, within_ready}
 use Rattle.md_copy.proofs.Steps.EndedWithin.{stopped_within}
@@ -93,6 +94,9 @@ returns-in-Ok-rebuild_readied-clause-gives g c =
     let many = c.in-Ok.ensures.chunks ∙ c.count.ensures.count ∙ ap (λ (q : Chunks). div_ceil q.size q.sectors) c.chunks.ensures ∙ sym c.requires.sound.chunks.count in
     let b = begins c.args.target v c.lower_target.new.mirror c.make_ready.new.mirror c.requires.sound it.0 it.1 (c.in_ok-check_rebuild.ensures it.0 it.1) c.in-Ok.copied many c.in-Ok.ensures.bits c.lower_target.ensures.gives c.in_ok-make_ready.ensures.gives in
     rebuilds c.args.target v c.make_ready.new.mirror c.in-Ok.copied b c.rebuild_readied.new.mirror c.in-Ok-rebuild_readied.told (c.in-Ok-rebuild_readied.ensures.gives b.now b.there)
+
+pub leave-requires-clause-may : goal.leave-requires-clause-may
+leave-requires-clause-may g c = may_leave_of c.args.target c.rebuild_readied.new.copied c.rebuild_readied.new.mirror c.in-Err-rebuild_readied.fault c.in-Err-rebuild_readied.ensures.leaves
 
 pub leave-requires-clause-within : goal.leave-requires-clause-within
 leave-requires-clause-within g c =

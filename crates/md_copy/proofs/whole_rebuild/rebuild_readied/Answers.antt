@@ -3,7 +3,7 @@ use Rattle.md_bitmap.specs.Marks.{Bitmap}
 use Rattle.md_copy.specs.Ending.Enrolled.{AreNoOrphans}
 use Rattle.md_copy.proofs.Passing.PassesLack.{all_lacks}
 use Rattle.std.proofs.lemmas.Result.{err_from_is_err_and}
-use Rattle.md_plan.specs.declared.planner.Planned.{Planned}
+use Rattle.md_cert.specs.declared.planned.Planned.{Planned}
 use Rattle.md_copy.specs.Told.{IsToldOfPlans}
 use Rattle.md_assembly.proofs.Indices.{got_within}
 use Rattle.md_copy.proofs.Steps.Answered.{enrol_stops, passes_stop, rebuilds_readied}

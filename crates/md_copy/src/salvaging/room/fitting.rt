@@ -6,13 +6,12 @@ ghost use Rattle.md_copy.specs.Salvaging.Widened.{TakesFewest};
 ghost use Rattle.md_kept_members.specs.SectorLists.{in_chunks_but, in_runs};
 ghost use Rattle.md_state.specs.Steps.Enrol.{HasFullLog};
 
-use crate::salvaging::room::trial_lists::{list_but_for, list_more};
 use crate::salvaging::room::widening::widen_lost;
 use md_array::Mirror;
 use md_badblocks::BadSet;
 use md_bitmap::Marks;
 use md_device::Device;
-use md_kept_members::log_room;
+use md_kept_members::{list_but_for, list_with_sectors, log_room};
 use std::alloc::{AllocError, Global};
 
 // An entry of a log names 512 sectors. So it saves none to unite two runs with more than these between them.
@@ -170,6 +169,6 @@ pub(crate) fn has_room<D: Device + Drop>(
         return Ok(true);
     }
     let own = mirror.own(k);
-    let list = list_more(alloc, mirror.bad(k), own.data_offset, listed)?;
+    let list = list_with_sectors(alloc, mirror.bad(k), own.data_offset, listed)?;
     Ok(list.entries_needed() <= log_room(own))
 }

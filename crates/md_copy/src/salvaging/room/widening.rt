@@ -5,7 +5,6 @@ ghost use Rattle.md_badblocks.specs.Runs.{IsCanonical};
 ghost use Rattle.md_bitmap.specs.Marks.{is_set};
 ghost use Rattle.md_copy.specs.Salvaging.Widened.{AreKeptTo, AreOthersTo, IsNotListed, TakesFewest};
 
-use crate::salvaging::room::trial_lists::same_list;
 use crate::salvaging::room::uniting::unite_runs;
 use md_badblocks::BadSet;
 use md_bitmap::{Chunks, Marks};
@@ -24,7 +23,7 @@ pub(crate) fn widen_lost(
     requires { missing.now.chunks ≡ div_ceil chunks.size chunks.sectors }
     ensures { IfOk result (TakesFewest gap to chunks missing.now lost.now) }
 {
-    let mut kept = same_list(alloc, lost)?;
+    let mut kept = lost.try_clone(alloc)?;
     keep_within(&mut kept, chunks, missing)?;
     let others = list_others(alloc, chunks, missing)?;
     unite_runs(alloc, &kept, &others, gap, to)

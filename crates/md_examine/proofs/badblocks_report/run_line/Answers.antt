@@ -1,5 +1,5 @@
 use Rattle.md_examine.specs.BadblocksReport.{run_text}
-use Rattle.md_examine.proofs.Puts.{puts_then}
+use Rattle.md_streams.proofs.Puts.{puts_then}
 use Rattle.md_examine.proofs.badblocks_report.run_line.Goals as goal
 
 pub returns : goal.returns

@@ -1,5 +1,5 @@
 use Rattle.md_examine.specs.BitmapReport.{bitmap_report}
-use Rattle.md_examine.proofs.Puts.{puts_then}
+use Rattle.md_streams.proofs.Puts.{puts_then}
 use Rattle.md_examine.proofs.bitmap_report.examine_bitmap.Goals as goal
 
 pub returns : goal.returns

@@ -1,5 +1,5 @@
 use Rattle.md_examine.specs.BitmapReport.{identity_lines}
-use Rattle.md_examine.proofs.Puts.{puts_then}
+use Rattle.md_streams.proofs.Puts.{puts_then}
 use Rattle.md_examine.proofs.bitmap_report.identity.Goals as goal
 
 pub returns : goal.returns

@@ -1,5 +1,5 @@
 use Rattle.md_examine.specs.BitmapReport.{setting_lines}
-use Rattle.md_examine.proofs.Puts.{puts_then}
+use Rattle.md_streams.proofs.Puts.{puts_then}
 use Rattle.md_examine.proofs.bitmap_report.settings.Goals as goal
 
 pub returns : goal.returns

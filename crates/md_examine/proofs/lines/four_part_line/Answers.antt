@@ -1,7 +1,7 @@
 use Rattle.std.proofs.Common.{ℕ, ◌++◌, ◌∷◌, [], List, subst, codes}
-use Rattle.md_examine.specs.Sink.{Puts}
+use Rattle.md_streams.specs.Sink.{Puts}
 use Rattle.md_examine.specs.Lines.{line_text}
-use Rattle.md_examine.proofs.Puts.{puts_then, four_parts}
+use Rattle.md_streams.proofs.Puts.{puts_then, four_parts}
 use Rattle.md_examine.proofs.lines.four_part_line.Goals as goal
 
 pub returns : goal.returns

@@ -1,5 +1,5 @@
 use Rattle.std.proofs.Common.{ℕ, List, subst}
-use Rattle.md_examine.specs.Sink.{PutsOrFails}
+use Rattle.md_streams.specs.Sink.{PutsOrFails}
 use Rattle.md_examine.specs.Lines.{line_text}
 use Rattle.md_examine.proofs.Texts.{name_is}
 use Rattle.md_examine.proofs.lines.name_line.Goals as goal

@@ -1,5 +1,5 @@
 use Rattle.md_examine.specs.SuperblockReport.{array_lines}
-use Rattle.md_examine.proofs.Puts.{puts_then}
+use Rattle.md_streams.proofs.Puts.{puts_then}
 use Rattle.md_examine.proofs.superblock_report.array.Goals as goal
 
 pub returns : goal.returns

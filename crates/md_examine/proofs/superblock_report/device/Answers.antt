@@ -1,5 +1,5 @@
 use Rattle.md_examine.specs.SuperblockReport.{device_lines}
-use Rattle.md_examine.proofs.Puts.{puts_then}
+use Rattle.md_streams.proofs.Puts.{puts_then}
 use Rattle.md_examine.proofs.superblock_report.device.Goals as goal
 
 pub returns : goal.returns

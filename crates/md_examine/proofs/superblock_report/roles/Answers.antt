@@ -1,5 +1,5 @@
 use Rattle.std.proofs.Common.{ℕ, List, subst, codes}
-use Rattle.md_examine.specs.Sink.{PutsOrFails}
+use Rattle.md_streams.specs.Sink.{PutsOrFails}
 use Rattle.md_examine.specs.Lines.{line_text, column}
 use Rattle.md_examine.proofs.Texts.{state_is}
 use Rattle.md_examine.proofs.superblock_report.roles.Goals as goal

@@ -1,6 +1,6 @@
 use Rattle.std.proofs.Common.{arith, rules, sym, ◌∙◌}
 use Rattle.md_examine.specs.Lines.{shown_byte}
-use Rattle.md_examine.proofs.Puts.{is_map}
+use Rattle.md_streams.proofs.Puts.{is_map}
 use Rattle.md_examine.proofs.values.shown_bytes.Goals as goal
 
 pub returns : goal.returns

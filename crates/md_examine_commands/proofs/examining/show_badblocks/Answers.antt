@@ -1,8 +1,8 @@
 use Rattle.std.proofs.Common.{◌≡◌, refl, rules}
 use Rattle.md_members.specs.Reading.{CallFails}
 use Rattle.std.specs.Prelude.{Err}
-use Rattle.md_commands.specs.declared.fault.CommandFault.TheVariants.{Member}
-use Rattle.md_commands.proofs.Wrapped.{own_err, own_ok}
+use Rattle.md_refusals.specs.declared.fault.CommandFault.TheVariants.{Member}
+use Rattle.md_refusals.proofs.Wrapped.{own_err, own_ok}
 use Rattle.md_examine_commands.specs.Examining.{IsBadblocksRefusal, IsBadblocksText, badblocks_shown}
 use Rattle.md_examine_commands.proofs.Reported.{reported}
 use Rattle.md_examine_commands.proofs.examining.show_badblocks.Goals as goal

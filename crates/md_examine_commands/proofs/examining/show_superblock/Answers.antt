@@ -1,6 +1,6 @@
 use Rattle.std.proofs.Common.{refl}
 use Rattle.md_members.specs.Reading.{CallFails}
-use Rattle.md_commands.proofs.Wrapped.{own_ok}
+use Rattle.md_refusals.proofs.Wrapped.{own_ok}
 use Rattle.md_examine_commands.specs.Examining.{IsSuperblockRefusal, IsSuperblockText, superblock_shown}
 use Rattle.md_examine_commands.proofs.Reported.{reported}
 use Rattle.md_examine_commands.proofs.examining.show_superblock.Goals as goal

@@ -1,5 +1,5 @@
 use Rattle.std.proofs.Common.{ℕ, List, subst}
-use Rattle.md_commands.specs.Output.{ShowsText}
+use Rattle.md_refusals.specs.Output.{ShowsText}
 use Rattle.md_examine_commands.specs.Examining.{scan_shown}
 use Rattle.md_examine_commands.specs.declared.scan.refused.Refused.{Refused}
 use Rattle.md_examine_commands.specs.declared.scan.seen.Seen.{Seen}

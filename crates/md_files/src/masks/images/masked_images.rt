@@ -30,7 +30,7 @@ fn no_device(alloc: Global) -> MemDevice
 }
 
 /// The mask of a copy that lacks these sectors, of which the disk has any bytes.
-pub fn mask_of(alloc: Global, missing: BadSet) -> MaskedDevice<MemDevice>
+pub(crate) fn mask_of(alloc: Global, missing: BadSet) -> MaskedDevice<MemDevice>
     ghost disk: { List ℕ }
     ensures { result ≡ mask_of missing disk }
 {

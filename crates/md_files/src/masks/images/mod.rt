@@ -17,6 +17,6 @@ mod words;
 pub use advice::{map_advice, map_out_advice};
 pub use copies::{MapText, mask_images};
 pub use fault::{LackingFault, MapOutFault, MapRefusal, MapsFault};
-pub use masked_images::{MaskedImages, mask_of};
+pub use masked_images::MaskedImages;
 pub use own_lines::strange_command;
 pub use words::{MapWord, map_list};

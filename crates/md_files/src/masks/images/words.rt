@@ -7,7 +7,7 @@ use crate::masks::images::fault::{MapRefusal, MapsFault};
 use std::alloc::Global;
 
 /// A map that is named: the place of its image among those listed, from 0, and the file that it is in.
-#[derive(Clone, Copy, Debug)]
+#[derive(Clone, Copy)]
 pub struct MapWord<'a> {
     pub image: usize,
     pub file: &'a str,

@@ -2,7 +2,7 @@
 use thiserror::Error;
 
 /// Why a line is refused, in the order in which it is looked for. The message is the variant's name.
-#[derive(Clone, Copy, Debug, PartialEq, Eq, Error)]
+#[derive(Clone, Copy, Debug, Error)]
 pub enum LineFault {
     /// The text ends within the line.
     #[error("Cut")]
@@ -28,7 +28,7 @@ pub enum LineFault {
 }
 
 /// Why a text is no map of an image. The first line that is refused says why; the other faults come where none is.
-#[derive(Clone, Copy, Debug, PartialEq, Eq, Error)]
+#[derive(Clone, Copy, Debug, Error)]
 pub enum MapFault {
     /// The line of this number, from 1.
     #[error("Line {number} {fault}")]

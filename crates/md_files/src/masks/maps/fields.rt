@@ -7,7 +7,7 @@ ghost use Rattle.md_files.specs.declared.masks.maps.fault.LineFault.TheVariants.
 use crate::masks::maps::fault::LineFault;
 
 /// The fields of a line.
-#[derive(Clone, Copy, Debug)]
+#[derive(Clone, Copy)]
 pub(crate) struct Row<'a> {
     pub(crate) first: &'a [u8],
     pub(crate) second: &'a [u8],

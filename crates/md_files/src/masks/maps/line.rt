@@ -10,7 +10,7 @@ use crate::masks::maps::fields::row_of;
 use crate::masks::maps::numbers::{number_of, numeral};
 
 /// Bytes of the image in a row: `len` of them, from `start` on, and whether they are rescued.
-#[derive(Clone, Copy, Debug, PartialEq, Eq)]
+#[derive(Clone, Copy)]
 pub struct Block {
     pub start: u64,
     pub len: u64,
@@ -18,7 +18,7 @@ pub struct Block {
 }
 
 /// What a line says.
-#[derive(Clone, Copy, Debug)]
+#[derive(Clone, Copy)]
 pub(crate) enum Line {
     /// Nothing, or it is a comment.
     Blank,

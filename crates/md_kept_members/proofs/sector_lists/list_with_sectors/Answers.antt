@@ -1,11 +1,13 @@
-use Rattle.std.proofs.Common.{subst}
-use Rattle.md_kept_members.specs.SectorLists.{IsListMore, in_runs}
-use Rattle.md_kept_members.specs.View.{MemberView}
-use Rattle.md_kept_members.proofs.SectorSets.{more_added}
+use Rattle.std.proofs.Common.{◌↔◌, ◌⊎◌, ℕ, List, subst, sym}
+use Rattle.md_badblocks.specs.declared.run.Run.{Run}
+use Rattle.md_badblocks.specs.Runs.{IsBad}
+use Rattle.md_kept_members.proofs.SectorSets.{IsPlacedOf, more_added}
 use Rattle.md_kept_members.proofs.sector_lists.list_with_sectors.Goals as goal
 
 pub returns : goal.returns
-returns c =
+returns c = λ m bad_is offset_is.
     let sectors = c.args.sectors.now in
-    subst (λ (m : MemberView). IsListMore (in_runs sectors) m c.add_sectors.new.list) c.member.view_is
-    (more_added sectors _ c.in_ok-list.list c.add_sectors.new.list c.in_ok-list.ensures.same c.add_sectors.ensures.canonical c.in_ok-add_sectors.ensures.bad)
+    more_added sectors m c.in_ok-list.list c.add_sectors.new.list
+    (subst (λ (xs : List Run). (s : ℕ) → IsBad c.in_ok-list.list s ↔ IsBad xs s) (sym bad_is) c.in_ok-list.ensures.same)
+    c.add_sectors.ensures.canonical
+    (subst (λ (offset : ℕ). (s : ℕ) → IsBad c.add_sectors.new.list s ↔ (IsBad c.in_ok-list.list s ⊎ IsPlacedOf sectors offset s)) (sym offset_is) c.in_ok-add_sectors.ensures.bad)

@@ -1,4 +1,4 @@
-use Rattle.md_examine.proofs.Puts.{puts_then}
+use Rattle.md_streams.proofs.Puts.{puts_then}
 use Rattle.md_messages.proofs.missing.first_to_last.Goals as goal
 
 pub returns : goal.returns

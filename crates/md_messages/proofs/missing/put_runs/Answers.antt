@@ -1,5 +1,5 @@
 use Rattle.md_messages.specs.Missing.{runs_text}
-use Rattle.md_examine.proofs.Puts.{puts_then}
+use Rattle.md_streams.proofs.Puts.{puts_then}
 use Rattle.md_messages.proofs.missing.put_runs.Goals as goal
 
 pub returns : goal.returns

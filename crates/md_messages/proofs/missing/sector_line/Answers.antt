@@ -1,7 +1,7 @@
 use Rattle.std.proofs.Common.{◌++◌, List, ℕ, subst}
 use Rattle.std.specs.Prelude.{codes, decimal}
-use Rattle.md_examine.specs.Sink.{Puts}
-use Rattle.md_examine.proofs.Puts.{puts_then}
+use Rattle.md_streams.specs.Sink.{Puts}
+use Rattle.md_streams.proofs.Puts.{puts_then}
 use Rattle.md_messages.proofs.missing.sector_line.Goals as goal
 
 pub returns : goal.returns

@@ -1,4 +1,4 @@
-use Rattle.md_examine.proofs.Puts.{puts_then}
+use Rattle.md_streams.proofs.Puts.{puts_then}
 use Rattle.md_messages.specs.RefusedLines.{failed_text}
 use Rattle.md_messages.proofs.refused_lines.failed_line.Goals as goal
 

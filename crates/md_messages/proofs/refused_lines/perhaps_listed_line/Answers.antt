@@ -1,6 +1,6 @@
 use Rattle.std.proofs.Common.{List, ℕ, subst}
-use Rattle.md_examine.proofs.Puts.{puts_then}
-use Rattle.md_examine.specs.Sink.{Puts}
+use Rattle.md_streams.proofs.Puts.{puts_then}
+use Rattle.md_streams.specs.Sink.{Puts}
 use Rattle.md_messages.specs.RefusedLines.{perhaps_listed_text}
 use Rattle.md_messages.proofs.refused_lines.perhaps_listed_line.Goals as goal
 

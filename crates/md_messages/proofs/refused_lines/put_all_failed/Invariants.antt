@@ -1,5 +1,5 @@
 use Rattle.std.specs.List.{flat_map, range_with_len}
-use Rattle.md_examine.specs.Sink.{Puts}
+use Rattle.md_streams.specs.Sink.{Puts}
 use Rattle.md_messages.specs.Telling.{failed_at, texts}
 use Rattle.md_messages.proofs.refused_lines.put_all_failed.Given as goal
 

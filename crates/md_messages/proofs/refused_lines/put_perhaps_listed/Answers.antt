@@ -1,7 +1,8 @@
 use Rattle.std.proofs.Common.{◌≡◌, ℕ, List, arith, subst}
 use Rattle.std.specs.List.{flat_map, range_with_len}
-use Rattle.md_examine.specs.Sink.{Puts}
-use Rattle.md_examine.proofs.Puts.{flat_map_next, puts_nothing, puts_then}
+use Rattle.md_streams.specs.Sink.{Puts}
+use Rattle.md_examine.proofs.Texts.{flat_map_next}
+use Rattle.md_streams.proofs.Puts.{puts_nothing, puts_then}
 use Rattle.md_words.specs.Asks.{ask_of}
 use Rattle.md_messages.specs.Telling.{perhaps_listed_at, texts}
 use Rattle.md_messages.proofs.refused_lines.put_perhaps_listed.Goals as goal

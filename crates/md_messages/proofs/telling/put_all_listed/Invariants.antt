@@ -1,5 +1,5 @@
 use Rattle.std.specs.List.{flat_map, range_with_len}
-use Rattle.md_examine.specs.Sink.{Puts}
+use Rattle.md_streams.specs.Sink.{Puts}
 use Rattle.md_words.specs.Asks.{ask_of}
 use Rattle.md_messages.specs.Telling.{listed_text_at, texts}
 use Rattle.md_messages.proofs.telling.put_all_listed.Given as goal

@@ -1,5 +1,5 @@
 use Rattle.std.specs.List.{flat_map, range_with_len}
-use Rattle.md_examine.specs.Sink.{Puts}
+use Rattle.md_streams.specs.Sink.{Puts}
 use Rattle.md_messages.specs.Telling.{parted_at, texts}
 use Rattle.md_messages.proofs.telling.put_all_parted.Given as goal
 

@@ -1,8 +1,8 @@
 use Rattle.std.proofs.Common.{◌≡◌, ◌∙◌, ◌<◌, ◌+◌, ℕ, [], true, false, length, get_or, ap, refl, subst, sym, arith}
 use Rattle.std.specs.List.{flat_map, range_with_len}
 use Rattle.std.proofs.lemmas.List.{length-map}
-use Rattle.md_examine.specs.Sink.{Puts}
-use Rattle.md_examine.proofs.Puts.{puts_nothing}
+use Rattle.md_streams.specs.Sink.{Puts}
+use Rattle.md_streams.proofs.Puts.{puts_nothing}
 use Rattle.md_images.specs.Taking.{is_missing_word}
 use Rattle.md_images.proofs.Listed.{text_at}
 use Rattle.md_messages.specs.Telling.{each_at, texts}

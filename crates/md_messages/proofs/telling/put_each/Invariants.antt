@@ -1,6 +1,6 @@
 use Rattle.std.proofs.Common.{◌≡◌, ◌≤◌}
 use Rattle.std.specs.List.{flat_map, range_with_len}
-use Rattle.md_examine.specs.Sink.{Puts}
+use Rattle.md_streams.specs.Sink.{Puts}
 use Rattle.md_messages.specs.Telling.{each_at, place_among, texts}
 use Rattle.md_messages.proofs.telling.put_each.Given as goal
 

@@ -1,5 +1,5 @@
 use Rattle.md_messages.specs.Telling.{refused_text}
-use Rattle.md_examine.proofs.Puts.{puts_then}
+use Rattle.md_streams.proofs.Puts.{puts_then}
 use Rattle.md_messages.proofs.telling.put_refused.Goals as goal
 
 pub returns : goal.returns

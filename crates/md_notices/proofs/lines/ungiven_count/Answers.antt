@@ -1,5 +1,5 @@
 use Rattle.md_notices.specs.Lines.{ungiven_count_text}
-use Rattle.md_examine.proofs.Puts.{puts_then}
+use Rattle.md_streams.proofs.Puts.{puts_then}
 use Rattle.md_notices.proofs.lines.ungiven_count.Goals as goal
 
 pub returns : goal.returns

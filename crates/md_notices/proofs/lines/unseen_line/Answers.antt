@@ -1,5 +1,5 @@
 use Rattle.md_notices.specs.Lines.{unseen_text}
-use Rattle.md_examine.proofs.Puts.{puts_then}
+use Rattle.md_streams.proofs.Puts.{puts_then}
 use Rattle.md_notices.proofs.lines.unseen_line.Goals as goal
 
 pub returns : goal.returns

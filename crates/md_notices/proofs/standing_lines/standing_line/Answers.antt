@@ -1,5 +1,5 @@
 use Rattle.md_notices.specs.Lines.{identity_text}
-use Rattle.md_examine.proofs.Puts.{puts_then}
+use Rattle.md_streams.proofs.Puts.{puts_then}
 use Rattle.md_notices.proofs.standing_lines.standing_line.Goals as goal
 
 pub returns : goal.returns

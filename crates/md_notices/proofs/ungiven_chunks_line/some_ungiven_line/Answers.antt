@@ -1,5 +1,5 @@
 use Rattle.md_notices.specs.UngivenLine.{some_ungiven_text}
-use Rattle.md_examine.proofs.Puts.{puts_then}
+use Rattle.md_streams.proofs.Puts.{puts_then}
 use Rattle.md_notices.proofs.ungiven_chunks_line.some_ungiven_line.Goals as goal
 
 pub returns : goal.returns

@@ -18,18 +18,18 @@ returns-in_err-prepared-clause-gives g c =
 
 pub returns-in_err-prepared-clause-writes : goal.returns-in_err-prepared-clause-writes
 returns-in_err-prepared-clause-writes g c =
-    nothing_written g.D.Device (copy_of c.args.plan.now.slots c.args.chunks c.args.offset) (pass_state c.args.devices.now.items c.args.target.now c.args.copied.now)
+    nothing_written g.D.Device (copy_of c.args.pass.now.plan.now.slots c.args.pass.now.chunks c.args.pass.now.offset) (pass_state c.args.devices.now.items c.args.target.now c.args.copied.now)
 
 pub copy_prepared-requires-clause-can : goal.copy_prepared-requires-clause-can
 copy_prepared-requires-clause-can g c κs within =
-    can_copy g.D.Device c.args.plan.now.slots c.args.chunks c.args.offset c.args.sources.now c.in_ok-prepared.prepared (pass_state c.args.devices.now.items c.args.target.now c.args.copied.now)
+    can_copy g.D.Device c.args.pass.now.plan.now.slots c.args.pass.now.chunks c.args.pass.now.offset c.args.pass.now.sources.now c.in_ok-prepared.prepared (pass_state c.args.devices.now.items c.args.target.now c.args.copied.now)
     c.in_ok-prepared.ensures c.requires.planned c.requires.sources c.requires.room c.requires.marks c.requires.uncopied
 
 pub returns-clause-gives : goal.returns-clause-gives
 returns-clause-gives g c =
-    let slots = c.args.plan.now.slots in
-    let sources = c.args.sources.now in
-    let copy = copy_of slots c.args.chunks c.args.offset in
+    let slots = c.args.pass.now.plan.now.slots in
+    let sources = c.args.pass.now.sources.now in
+    let copy = copy_of slots c.args.pass.now.chunks c.args.pass.now.offset in
     let p = c.in_ok-prepared.prepared in
     let old = pass_state c.args.devices.now.items c.args.target.now c.args.copied.now in
     let new = pass_state c.copy_prepared.new.devices.items c.copy_prepared.new.target c.copy_prepared.new.copied in
@@ -44,4 +44,4 @@ returns-clause-writes g c =
 
 pub returns-clause-told : goal.returns-clause-told
 returns-clause-told g c =
-    subst (λ (slots : List Slot). OnOk c.copy_prepared.result (All (λ (slot : Slot). IsTold g.G.Gate c.args.gate.now slot.source slot.chunk) slots)) (ap (λ (x : Copying). x.slots) c.in_ok-prepared.ensures.copy) c.copy_prepared.ensures.told
+    subst (λ (slots : List Slot). OnOk c.copy_prepared.result (All (λ (slot : Slot). IsTold g.G.Gate c.args.workers.now.gate.now slot.source slot.chunk) slots)) (ap (λ (x : Copying). x.slots) c.in_ok-prepared.ensures.copy) c.copy_prepared.ensures.told

@@ -33,7 +33,7 @@ take_out-rest-requires-clause-slots g c =
 
 pub run_turns-result-requires-clause-turns : goal.run_turns-result-requires-clause-turns
 run_turns-result-requires-clause-turns g c κs within =
-    turns_enough (c.turns_of-turns.result * c.args.prepared.most) c.args.prepared.readings.items c.take_out-rest.new.queues.items c.take_out-rest.ensures.len (rw (← c.as_slice.ensures.value) c.turns_of-turns.ensures) c.take_out-rest.ensures.queues
+    turns_enough (c.turns_of-count.result * c.args.prepared.most) c.args.prepared.readings.items c.take_out-rest.new.queues.items c.take_out-rest.ensures.len (rw (← c.as_slice.ensures.value) c.turns_of-count.ensures) c.take_out-rest.ensures.queues
 
 pub run_turns-result-requires-clause-fresh : goal.run_turns-result-requires-clause-fresh
 run_turns-result-requires-clause-fresh g c κs within =
@@ -127,4 +127,4 @@ returns-clause-told g c =
     let can = c.requires.can in
     let old = pass_state c.args.devices.now.items c.args.target.now c.args.copied.now in
     let left = have_left c.args.prepared old c.take_out-rest.new.devices.items c.as_slice-places.result.now c.take_out-rest.new.queues.items can c.as_slice-places.ensures.value c.take_out-rest.ensures.len c.take_out-rest.ensures.taken c.take_out-rest.ensures.queues in
-    all_told left c.in_ok-result.ensures.passed c.in_ok-result.ensures.done g.G.Gate c.args.gate.now c.in_ok-result.ensures.told
+    all_told left c.in_ok-result.ensures.passed c.in_ok-result.ensures.done g.G.Gate c.args.workers.now.gate.now c.in_ok-result.ensures.told

@@ -26,9 +26,9 @@ hand_over-requires-clause-within g c = all_within c.loop-turn.invariant.passing
 pub take_and_read-requires-clause-ready : goal.take_and_read-requires-clause-ready
 take_and_read-requires-clause-ready g c κs within =
     let inv = c.loop-turn.invariant in
-    let same : c.args.chunks ≡ c.loop-turn.collector.chunks = c.requires.chunks ∙ sym (ap (λ (v : Copying). v.chunks) inv.passing.books.same_copy) in
-    subst (λ v. All (λ (queue : Queue _ _ _). IsReadyForTurn g.D.Device v c.args.most queue) c.hand_over.new.queues.items) (sym same)
-    (all_ready inv.passing (subst (λ v. HaveMemory v c.args.most c.loop-turn.queues.items c.loop-turn.waiting.items) same inv.memory) c.hand_over.ensures)
+    let same : c.args.turns.now.chunks ≡ c.loop-turn.collector.chunks = c.requires.chunks ∙ sym (ap (λ (v : Copying). v.chunks) inv.passing.books.same_copy) in
+    subst (λ v. All (λ (queue : Queue _ _ _). IsReadyForTurn g.D.Device v c.args.turns.now.most queue) c.hand_over.new.queues.items) (sym same)
+    (all_ready inv.passing (subst (λ v. HaveMemory v c.args.turns.now.most c.loop-turn.queues.items c.loop-turn.waiting.items) same inv.memory) c.hand_over.ensures)
 
 pub take_and_read-requires-clause-passing : goal.take_and_read-requires-clause-passing
 take_and_read-requires-clause-passing g c κs within =
@@ -57,16 +57,16 @@ loop-turn-preserved g c =
     = all_taken c.take_and_read.new.waiting.items (subst (λ (b : Bool). IsPassing g.D.Device b firsts (all_with_reports mids c.take_and_read.new.waiting.items) start next) inv.target.honest_kept
     (taken.passing firsts mids start (now_handed over inv.memory.as_many) (rw inv.target.honest_kept (handing inv.passing over inv.memory.as_many))))
     (taken.as_many ∙ over.waits_as_many ∙ inv.memory.as_many ∙ sym over.as_many) c.in_ok-take_and_read.ensures.taken none in
-    let same : c.take_and_read.new.collector.chunks ≡ c.args.chunks = ap (λ (v : Copying). v.chunks) passing.books.same_copy ∙ sym c.requires.chunks in
-    let after = turned {most = c.args.most} news passing none read.as_many (λ k d below. rw same (read.worked k d below)) in
+    let same : c.take_and_read.new.collector.chunks ≡ c.args.turns.now.chunks = ap (λ (v : Copying). v.chunks) passing.books.same_copy ∙ sym c.requires.chunks in
+    let after = turned {most = c.args.turns.now.most} news passing none read.as_many (λ k d below. rw same (read.worked k d below)) in
     record {
       passing = after;
       read = λ k d below.
           let there : k < length mids = omega (arith, below, read.as_many) in
           let here : k < length olds = omega (arith, there, over.as_many) in
-          next_read g.D.Device c.args.chunks c.loop-turn._turn c.args.most (get_or olds k d) (get_or mids k d) (get_or news k d) (get_or c.loop-turn.waiting.items k no_reports)
+          next_read g.D.Device c.args.turns.now.chunks c.loop-turn._turn c.args.turns.now.most (get_or olds k d) (get_or mids k d) (get_or news k d) (get_or c.loop-turn.waiting.items k no_reports)
           (over.queues_are k d no_reports here) (inv.memory.idle k no_reports (let m = inv.memory.as_many in omega (arith, m, here))) (read.worked k d there) (inv.read k d here);
-      memory = memory_then g.D.Device c.args.chunks c.args.most olds mids news c.loop-turn.waiting.items c.hand_over.new.waiting.items c.take_and_read.new.waiting.items inv.memory over
+      memory = memory_then g.D.Device c.args.turns.now.chunks c.args.turns.now.most olds mids news c.loop-turn.waiting.items c.hand_over.new.waiting.items c.take_and_read.new.waiting.items inv.memory over
           read.as_many read.worked taken.as_many taken.kept c.in_ok-take_and_read.ensures.taken;
       target = keeps_then (copying c.args.collector.now) c.args.target.now c.loop-turn.target c.take_and_read.new.target inv.target
           (subst (λ v. KeepsBeside g.D.Device v c.loop-turn.target c.take_and_read.new.target) inv.passing.books.same_copy c.take_and_read.ensures.writes.target);
@@ -76,8 +76,8 @@ loop-turn-preserved g c =
           let first = get_or firsts k d in
           let mid = get_or mids k d in
           let now = (passing.each k d below).read in
-          told_then g.G.Gate c.args.gate.now first mid (get_or news k d) (role_kept now) (chunks_kept now)
-          (told_still g.G.Gate c.args.gate.now first (get_or olds k d) mid (told_handed over inv.memory k d here) (inv.told k d below)) (read.told k d there);
+          told_then g.G.Gate c.args.turns.now.gate.now first mid (get_or news k d) (role_kept now) (chunks_kept now)
+          (told_still g.G.Gate c.args.turns.now.gate.now first (get_or olds k d) mid (told_handed over inv.memory k d here) (inv.told k d below)) (read.told k d there);
     }
 
 pub returns-in_err-take_and_read-clause-failed : goal.returns-in_err-take_and_read-clause-failed
@@ -87,7 +87,7 @@ returns-in_err-take_and_read-clause-failed g c =
 pub returns-in_err-take_and_read-clause-sources : goal.returns-in_err-take_and_read-clause-sources
 returns-in_err-take_and_read-clause-sources g c =
     let read = c.take_and_read.ensures.read in
-    sources_turned g.D.Device c.args.chunks c.args.most c.args.queues.now.items c.hand_over.new.queues.items c.take_and_read.new.queues.items (sources_read c.loop-turn.invariant.passing c.hand_over.ensures) read.as_many read.worked
+    sources_turned g.D.Device c.args.turns.now.chunks c.args.turns.now.most c.args.queues.now.items c.hand_over.new.queues.items c.take_and_read.new.queues.items (sources_read c.loop-turn.invariant.passing c.hand_over.ensures) read.as_many read.worked
 
 pub returns-in_err-take_and_read-clause-target : goal.returns-in_err-take_and_read-clause-target
 returns-in_err-take_and_read-clause-target g c =
@@ -142,7 +142,7 @@ returns-clause-done g c =
     let at = over.queues_are k d no_reports here in
     let long : length (get_or news k d).chunks.items ≡ length (get_or c.loop-turn.queues.items k d).chunks.items = ap (λ (l : Queue _ _ _). length l.chunks.items) at in
     let done : (get_or news k d).done ≡ slots_read (get_or c.loop-turn.queues.items k d) = ap (λ (l : Queue _ _ _). l.done) at in
-    let turns : c.args.turns * c.args.most ≤ c.loop-turn._turn * c.args.most = mul-le-mul_right c.args.most c.loop-turn-test.false in
+    let turns : c.args.turns.now.count * c.args.turns.now.most ≤ c.loop-turn._turn * c.args.turns.now.most = mul-le-mul_right c.args.turns.now.most c.loop-turn-test.false in
     let within = way.within in
     (omega (arith, n, enough, least, long, done, turns, within), none k d below))
 
@@ -157,7 +157,7 @@ returns-clause-told g c =
     on_one c.take_reports.result c.take_reports.ensures.taken
     (λ idle k d below.
     let here : k < length c.loop-turn.queues.items = omega (arith, below, inv.passing.as_many) in
-    told_still g.G.Gate c.args.gate.now (get_or c.args.queues.now.items k d) (get_or c.loop-turn.queues.items k d) (get_or c.hand_over-2.new.queues.items k d) (told_handed c.hand_over-2.ensures inv.memory k d here) (inv.told k d below))
+    told_still g.G.Gate c.args.turns.now.gate.now (get_or c.args.queues.now.items k d) (get_or c.loop-turn.queues.items k d) (get_or c.hand_over-2.new.queues.items k d) (told_handed c.hand_over-2.ensures inv.memory k d here) (inv.told k d below))
 
 pub returns-clause-sources : goal.returns-clause-sources
 returns-clause-sources g c = sources_read c.loop-turn.invariant.passing c.hand_over-2.ensures

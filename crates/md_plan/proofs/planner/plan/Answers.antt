@@ -4,7 +4,7 @@ use Rattle.md_cert.specs.declared.table.Row.{Row}
 use Rattle.md_cert.specs.Plans.{IsCertified}
 use Rattle.md_cert.proofs.Law.{certified_least}
 use Rattle.md_cert.proofs.Order.{certified_yes}
-use Rattle.md_plan.specs.declared.planner.Planned.{Planned}
+use Rattle.md_cert.specs.declared.planned.Planned.{Planned}
 use Rattle.md_plan.proofs.planner.plan.Goals as goal
 
 pub returns-clause-least : goal.returns-clause-least

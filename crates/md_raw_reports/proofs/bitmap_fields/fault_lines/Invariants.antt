@@ -1,6 +1,6 @@
 use Rattle.std.proofs.Common.{take}
 use Rattle.std.specs.List.{flat_map}
-use Rattle.md_examine.specs.Sink.{Puts}
+use Rattle.md_streams.specs.Sink.{Puts}
 use Rattle.md_raw_reports.specs.BitmapFields.{bitmap_fault_text}
 use Rattle.md_raw_reports.proofs.bitmap_fields.fault_lines.Given as goal
 

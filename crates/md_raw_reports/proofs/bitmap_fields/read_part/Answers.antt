@@ -1,5 +1,5 @@
 use Rattle.md_raw_reports.specs.BitmapFields.{read_text}
-use Rattle.md_examine.proofs.Puts.{puts_then}
+use Rattle.md_streams.proofs.Puts.{puts_then}
 use Rattle.md_raw_reports.proofs.bitmap_fields.read_part.Goals as goal
 
 pub returns : goal.returns

@@ -1,7 +1,8 @@
 use Rattle.std.proofs.Common.{ℕ, List, subst}
-use Rattle.md_examine.specs.Sink.{Puts}
+use Rattle.md_streams.specs.Sink.{Puts}
 use Rattle.md_raw_reports.specs.LogFields.{entry_text}
-use Rattle.md_examine.proofs.Puts.{puts_then, puts_nothing, flat_map_next}
+use Rattle.md_streams.proofs.Puts.{puts_then, puts_nothing}
+use Rattle.md_examine.proofs.Texts.{flat_map_next}
 use Rattle.md_raw_reports.proofs.log_fields.entry_lines.Goals as goal
 
 pub loop-place-init : goal.loop-place-init

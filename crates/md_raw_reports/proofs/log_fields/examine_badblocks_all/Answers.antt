@@ -1,5 +1,5 @@
 use Rattle.md_raw_reports.specs.LogFields.{log_all_text}
-use Rattle.md_examine.proofs.Puts.{puts_then}
+use Rattle.md_streams.proofs.Puts.{puts_then}
 use Rattle.md_raw_reports.proofs.log_fields.examine_badblocks_all.Goals as goal
 
 pub returns : goal.returns

@@ -3,9 +3,9 @@ use Rattle.std.specs.List.{flat_map}
 use Rattle.std.proofs.lemmas.List.{take_all}
 use Rattle.std.proofs.lemmas.Option.{get_or_from_slice_get, slice_get_read}
 use Rattle.md_raw_reports.specs.declared.super_fields.Found.{Found}
-use Rattle.md_examine.specs.Sink.{Puts}
+use Rattle.md_streams.specs.Sink.{Puts}
 use Rattle.md_raw_reports.specs.SuperFields.{found_text}
-use Rattle.md_examine.proofs.Puts.{puts_then, puts_nothing, flat_map_at}
+use Rattle.md_streams.proofs.Puts.{puts_then, puts_nothing, flat_map_at}
 use Rattle.md_raw_reports.proofs.super_fields.found_lines.Goals as goal
 
 pub loop-it-init : goal.loop-it-init

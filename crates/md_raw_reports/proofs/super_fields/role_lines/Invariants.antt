@@ -1,5 +1,5 @@
 use Rattle.std.specs.List.{flat_map, range_with_len}
-use Rattle.md_examine.specs.Sink.{Puts}
+use Rattle.md_streams.specs.Sink.{Puts}
 use Rattle.md_raw_reports.specs.SuperFields.{role_line_text}
 use Rattle.md_raw_reports.proofs.super_fields.role_lines.Given as goal
 

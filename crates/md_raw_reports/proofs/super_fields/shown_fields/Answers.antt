@@ -1,5 +1,5 @@
 use Rattle.md_raw_reports.specs.SuperFields.{fields_text}
-use Rattle.md_examine.proofs.Puts.{puts_then}
+use Rattle.md_streams.proofs.Puts.{puts_then}
 use Rattle.md_raw_reports.proofs.super_fields.shown_fields.Goals as goal
 
 pub returns : goal.returns

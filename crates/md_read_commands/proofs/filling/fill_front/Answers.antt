@@ -1,7 +1,7 @@
 use Rattle.std.proofs.Common.{◌≡◌, ◌∙◌, ◌+◌, ◌*◌, ◌-◌, ◌<◌, ◌≤◌, ℕ, List, length, drop, take, arith, subst, sym, length-drop}
 use Rattle.std.proofs.lemmas.List.{length-take-le}
 use Rattle.md_state.specs.View.{ArrayView}
-use Rattle.md_read_commands.specs.Gaps.{gaps_of}
+use Rattle.md_read_commands.specs.Holes.{gaps_of}
 use Rattle.md_read_commands.proofs.Filled.{block_fits, front_filled, front_given, size_fits}
 use Rattle.md_read_commands.proofs.Ways.{ends_there}
 use Rattle.md_read_commands.proofs.filling.fill_front.Goals as goal

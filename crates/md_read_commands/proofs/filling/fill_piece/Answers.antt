@@ -4,7 +4,7 @@ use Rattle.md_laws.proofs.Runs.Rests.{rests_same}
 use Rattle.md_read.proofs.SectorsGiven.{length-replaced}
 use Rattle.md_read_commands.specs.Ways.{MayReadBy}
 use Rattle.md_read_commands.proofs.Filled.{clear_there, fills_nothing, front_more, piece_filled, size_fits}
-use Rattle.md_read_commands.specs.Gaps.{gaps_of}
+use Rattle.md_read_commands.specs.Holes.{gaps_of}
 use Rattle.md_read_commands.proofs.Rooms.{few_more, room_left, same_room_then}
 use Rattle.md_read_commands.proofs.Ways.{may_read_part}
 use Rattle.md_read_commands.proofs.filling.fill_piece.Goals as goal

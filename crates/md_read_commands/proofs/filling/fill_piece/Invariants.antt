@@ -1,7 +1,8 @@
 use Rattle.std.proofs.Common.{◌≡◌, ◌*◌, ◌-◌, ◌/◌, ◌<◌, ◌≤◌, length, take}
 use Rattle.md_array.specs.Consistency.{IsConsistent}
 use Rattle.md_read_commands.specs.Filling.{FillsMore}
-use Rattle.md_read_commands.specs.Gaps.{AreFitGaps, HasFewMore, HasSameRoom, gaps_of}
+use Rattle.md_streams.specs.Gaps.{AreFitGaps}
+use Rattle.md_read_commands.specs.Holes.{HasFewMore, HasSameRoom, gaps_of}
 use Rattle.md_read_commands.proofs.filling.fill_piece.Given as goal
 
 abbrev pub decreases-loop-done : goal.decreases-loop-done

@@ -1,5 +1,5 @@
 use Rattle.std.proofs.Common.{rules, Err, ◌≡◌}
-use Rattle.md_commands.specs.declared.fault.CommandFault.TheVariants.{NoPieceMemory}
+use Rattle.md_refusals.specs.declared.fault.CommandFault.TheVariants.{NoPieceMemory}
 use Rattle.md_read_commands.proofs.FilledPut.{no_piece}
 use Rattle.md_read_commands.proofs.filling.put_filled.Goals as goal
 

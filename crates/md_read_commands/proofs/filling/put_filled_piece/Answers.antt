@@ -1,8 +1,8 @@
 use Rattle.std.proofs.Common.{rules, Err, ◌≡◌, ◌/◌, length, refl, subst, arith}
-use Rattle.md_commands.specs.declared.fault.CommandFault.TheVariants.{NoPieceMemory, OutputFault}
-use Rattle.md_read_commands.specs.declared.gaps.Gaps.{Gaps}
+use Rattle.md_refusals.specs.declared.fault.CommandFault.TheVariants.{NoPieceMemory, OutputFault}
+use Rattle.md_streams.specs.declared.gaps.Gaps.{Gaps}
 use Rattle.md_read_commands.specs.Filling.{FillsMore}
-use Rattle.md_read_commands.specs.Gaps.{gaps_of}
+use Rattle.md_read_commands.specs.Holes.{gaps_of}
 use Rattle.md_read_commands.proofs.Filled.{fills_noted}
 use Rattle.md_read_commands.proofs.Noted.{no_gaps_is, none_clear, none_fit}
 use Rattle.md_read_commands.proofs.Rooms.{all_room}

@@ -1,6 +1,6 @@
 use Rattle.std.proofs.Common.{rules, Err, ◌≡◌, ◌∙◌, ◌+◌, ◌*◌, ◌-◌, ◌/◌, ◌<◌, ◌≤◌, ℕ, List, length, drop, take, min, refl, subst, arith, length-append, length-drop}
 use Rattle.std.proofs.lemmas.List.{length-take-le}
-use Rattle.md_commands.specs.declared.fault.CommandFault.TheVariants.{OutputFault}
+use Rattle.md_refusals.specs.declared.fault.CommandFault.TheVariants.{OutputFault}
 use Rattle.md_read_commands.specs.Pieces.{piece_sectors}
 use Rattle.md_read_commands.specs.Ways.{MayReadBy}
 use Rattle.md_read_commands.proofs.FilledPut.{FilledSoFar, clear_next, not_flushed, puts_all, puts_first, puts_more, refuses_more}

@@ -1,6 +1,7 @@
 use Rattle.std.proofs.Common.{◌≡◌, ◌-◌, ◌≤◌, length}
 use Rattle.md_array.specs.Consistency.{IsConsistent}
-use Rattle.md_read_commands.specs.Gaps.{AreTold, HasSameRoom}
+use Rattle.md_streams.specs.Gaps.{AreTold}
+use Rattle.md_read_commands.specs.Holes.{HasSameRoom}
 use Rattle.md_read_commands.proofs.FilledPut.{FilledSoFar}
 use Rattle.md_read_commands.proofs.filling.put_filled_pieces.Given as goal
 

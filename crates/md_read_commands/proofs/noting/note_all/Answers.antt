@@ -1,6 +1,6 @@
 use Rattle.std.proofs.Common.{rules, Err, ◌≡◌, refl}
 use Rattle.md_read_commands.proofs.Noted.{nothing_noted, some_gap}
-use Rattle.md_read_commands.specs.Gaps.{gaps_of}
+use Rattle.md_read_commands.specs.Holes.{gaps_of}
 use Rattle.md_read_commands.proofs.noting.note_all.Goals as goal
 
 pub returns-then-is_empty : goal.returns-then-is_empty

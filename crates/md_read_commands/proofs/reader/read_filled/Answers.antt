@@ -1,7 +1,7 @@
 use Rattle.std.proofs.Common.{◌/◌, length, arith, subst}
-use Rattle.md_read_commands.specs.declared.gaps.Gaps.{Gaps}
+use Rattle.md_streams.specs.declared.gaps.Gaps.{Gaps}
 use Rattle.md_read_commands.specs.Filling.{FillsMore, IsFilled}
-use Rattle.md_read_commands.specs.Gaps.{gaps_of}
+use Rattle.md_read_commands.specs.Holes.{gaps_of}
 use Rattle.md_read_commands.proofs.Filled.{filled}
 use Rattle.md_read_commands.proofs.Noted.{no_gaps_is, none_clear, none_fit}
 use Rattle.md_read_commands.proofs.Rooms.{all_room}

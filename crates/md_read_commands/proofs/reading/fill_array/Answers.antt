@@ -1,7 +1,7 @@
 use Rattle.std.proofs.Common.{rules, Err, ◌≡◌, refl}
-use Rattle.md_commands.specs.declared.fault.CommandFault.TheVariants.{Read}
+use Rattle.md_refusals.specs.declared.fault.CommandFault.TheVariants.{Read}
 use Rattle.md_read_commands.proofs.ReadReadied.{fills_all, fills_but, not_ready_to_fill, refuses_to_fill}
-use Rattle.md_commands.proofs.Wrapped.{own_err, own_ok}
+use Rattle.md_refusals.proofs.Wrapped.{own_err, own_ok}
 use Rattle.md_read_commands.proofs.reading.fill_array.Goals as goal
 
 pub returns-in_err-way-clause-gives : goal.returns-in_err-way-clause-gives

@@ -1,6 +1,6 @@
 use Rattle.std.proofs.Common.{refl}
 use Rattle.md_read_commands.proofs.ReadReadied.{is_readied, may_read, not_resynced}
-use Rattle.md_commands.proofs.Wrapped.{own_ok}
+use Rattle.md_refusals.proofs.Wrapped.{own_ok}
 use Rattle.md_read_commands.proofs.reading.make_ready.Goals as goal
 
 pub returns-then-not-resynced-clause-gives : goal.returns-then-not-resynced-clause-gives

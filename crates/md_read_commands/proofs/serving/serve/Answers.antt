@@ -1,7 +1,7 @@
 use Rattle.std.proofs.Common.{rules, Err, ◌≡◌, ◌∙◌, inl, inr, refl, sym}
-use Rattle.md_commands.specs.declared.fault.CommandFault.TheVariants.{OutputFault, Read}
-use Rattle.md_commands.proofs.Wrapped.{own_err, own_ok}
-use Rattle.md_nbd.specs.declared.server.session.SessionFault.TheVariants as session
+use Rattle.md_refusals.specs.declared.fault.CommandFault.TheVariants.{OutputFault, Read}
+use Rattle.md_refusals.proofs.Wrapped.{own_err, own_ok}
+use Rattle.md_nbd.specs.declared.server.session_fault.SessionFault.TheVariants as session
 use Rattle.md_read_commands.proofs.Served.{broken_rests, broken_told, export_by, gave_zeros, served_client, session_rests, session_told}
 use Rattle.md_read_commands.proofs.serving.serve.Goals as goal
 

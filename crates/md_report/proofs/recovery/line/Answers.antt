@@ -1,4 +1,4 @@
-use Rattle.md_examine.proofs.Puts.{puts_then}
+use Rattle.md_streams.proofs.Puts.{puts_then}
 use Rattle.md_report.specs.Recovery.{recovery_line}
 use Rattle.md_report.proofs.recovery.line.Goals as goal
 

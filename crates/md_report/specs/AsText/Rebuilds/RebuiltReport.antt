@@ -1,7 +1,7 @@
 -- The report of a rebuild, as text, in a form of this project's own.
 use Rattle.std.specs.Prelude.{ℕ, List, ◌++◌, codes, decimal}
 use Rattle.std.specs.List.{flat_map}
-use Rattle.md_plan.specs.declared.planner.Planned.{Planned}
+use Rattle.md_cert.specs.declared.planned.Planned.{Planned}
 use Rattle.md_report.specs.AsText.Rebuilds.PlanReport.{plan_text}
 
 -- the plan of a pass

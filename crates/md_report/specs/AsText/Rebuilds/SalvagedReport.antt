@@ -2,7 +2,7 @@
 use Rattle.std.specs.Prelude.{ℕ, ◌-◌, List, [], ◌++◌, Option, Some, None, codes, decimal, slice_get}
 use Rattle.md_badblocks.specs.declared.run.Run.{Run}
 use Rattle.md_notices.specs.ListedSectors.{sector_count}
-use Rattle.md_plan.specs.declared.planner.Planned.{Planned}
+use Rattle.md_cert.specs.declared.planned.Planned.{Planned}
 use Rattle.md_report.specs.AsText.Rebuilds.RebuiltReport.{planned_text}
 
 -- the first sector of a run, where there is one

@@ -12,8 +12,9 @@ use Rattle.md_kept_members.specs.View.{MemberView}
 use Rattle.md_state.specs.Members.{is_degraded}
 use Rattle.md_state.specs.Missing.{is_re_added}
 use Rattle.md_state.specs.View.{ArrayView}
+use Rattle.md_notices.specs.Noticing.{in_sync_count}
 use Rattle.md_examine.specs.Lines.{column, line_text, name_text, right_aligned, sectors_text}
-use Rattle.md_report.specs.AsText.WholeArray.SummaryReport.{in_sync_members, marked_chunks}
+use Rattle.md_report.specs.AsText.WholeArray.SummaryReport.{marked_chunks}
 use Rattle.md_examine.specs.SuperblockReport.{state_text}
 
 -- what the members share
@@ -39,7 +40,7 @@ marked_text m = decimal (marked_chunks m) ++ codes " of " ++ decimal m.chunks
 -- what changes as the array is used
 unfoldable pub condition_lines : ArrayView → List ℕ
 condition_lines a =
-    line_text (column (codes "In Sync")) (decimal (in_sync_members a))
+    line_text (column (codes "In Sync")) (decimal (in_sync_count a.members))
     ++ line_text (column (codes "State")) (condition_text a)
     ++ line_text (column (codes "Events")) (decimal a.shared.events)
     ++ line_text (column (codes "Marked Chunks")) (marked_text a.marks)

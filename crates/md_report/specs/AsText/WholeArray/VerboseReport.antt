@@ -8,7 +8,7 @@ use Rattle.md_kept_members.specs.OwnFields.{is_write_mostly}
 use Rattle.md_kept_members.specs.View.{MemberView}
 use Rattle.md_state.specs.Missing.{is_re_added}
 use Rattle.md_state.specs.View.{ArrayView}
-use Rattle.md_examine.specs.ShownNames.Shown.{shown}
+use Rattle.md_streams.specs.ShownNames.Shown.{shown}
 use Rattle.md_report.specs.AsText.WholeArray.DetailReport.{condition_lines, place_text, role_text_or_dash, shared_lines, standing_text, text_where}
 use Rattle.md_report.specs.Recovery.{recovery_lines}
 

@@ -1,13 +1,13 @@
 // The object of a member's bad blocks.
 ghost use Rattle.std.specs.Prelude.{◌≡◌, ◌++◌, codes, false};
 ghost use Rattle.serde_json.specs.Written.{comma_if, compact_text};
-ghost use Rattle.md_examine.specs.Sink.{PutsOrFails};
+ghost use Rattle.md_streams.specs.Sink.{PutsOrFails};
 ghost use Rattle.md_report.specs.AsJson.OneImage.BadblocksObject.{badblocks_object, list_fields, run_object};
 ghost use Rattle.md_report.specs.AsJson.Objects.{elements_text, later_text, object_line};
 
 use crate::as_json::values::{close, comma_if, next_key, next_number, open, open_number};
 use md_badblocks::{BadSet, Run};
-use md_examine::{Sink, SinkFault};
+use md_streams::{Sink, SinkFault};
 
 /// Writes a set of bad blocks as an object, alone in its line: each of its maximal runs, rising. It takes no
 /// memory, and fails only where the sink has failed.
@@ -46,7 +46,7 @@ pub(crate) fn run_elements<S: Sink>(out: &mut S, runs: &[Run]) -> Result<(), Sin
 }
 
 // A run, after a comma where it is not the first.
-#[tactic(auto, using(md_examine::proofs::Puts::puts_then))]
+#[tactic(auto, using(md_streams::proofs::Puts::puts_then))]
 fn run_element<S: Sink>(out: &mut S, later: bool, run: &Run) -> Result<(), SinkFault>
     ensures { PutsOrFails S.contents S.failed out.old out.new
         (comma_if later ++ compact_text (run_object run.now)) result }

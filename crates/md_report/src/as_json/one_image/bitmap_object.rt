@@ -1,12 +1,12 @@
 // The object of a bitmap.
 ghost use Rattle.std.specs.Prelude.{◌≡◌};
-ghost use Rattle.md_examine.specs.Sink.{PutsOrFails};
+ghost use Rattle.md_streams.specs.Sink.{PutsOrFails};
 ghost use Rattle.md_report.specs.AsJson.OneImage.BitmapObject.{bitmap_object, identity_fields, mark_fields, setting_fields};
 ghost use Rattle.md_report.specs.AsJson.Objects.{later_text, object_line};
 
 use crate::as_json::values::{close, next_number, next_text, next_uuid, open};
 use md_bitmap::{BitmapHeader, Marks};
-use md_examine::{Sink, SinkFault};
+use md_streams::{Sink, SinkFault};
 
 const VERSION: u32 = 4;
 

@@ -3,7 +3,7 @@ ghost use Rattle.std.specs.Prelude.{◌≡◌, codes};
 ghost use Rattle.json.specs.Print.{quoted};
 ghost use Rattle.serde_json.specs.Written.{compact_text};
 ghost use Rattle.md_examine.specs.Lines.{hex8_text};
-ghost use Rattle.md_examine.specs.Sink.{PutsOrFails};
+ghost use Rattle.md_streams.specs.Sink.{PutsOrFails};
 ghost use Rattle.md_examine.specs.SuperblockReport.{array_state};
 ghost use Rattle.md_report.specs.AsJson.Objects.{later_text, object_line, next_text, signed};
 ghost use Rattle.md_report.specs.AsJson.OneImage.SuperblockObject.{array_fields, bitmap_value, device_fields, log_object, log_value, role_of_device, place_fields, recovery_value, role_value, role_word, size_fields, state_fields, superblock_object};
@@ -12,7 +12,8 @@ use crate::as_json::values::{
     close, next_cleanness, next_key, next_name, next_null, next_number, next_signed, next_text,
     next_uuid, open, open_number,
 };
-use md_examine::{Sink, SinkFault, hex_digits, state_letters};
+use md_examine::{hex_digits, state_letters};
+use md_streams::{Sink, SinkFault};
 use md_super::{FAULTY, FEATURE_BITMAP_OFFSET, FEATURE_RECOVERY_OFFSET, Superblock};
 
 // The low 40 bits of a time.

@@ -1,7 +1,7 @@
 // The object of a rebuild's plan.
 ghost use Rattle.std.specs.Prelude.{◌≡◌, ◌++◌, codes, decimal, false};
 ghost use Rattle.serde_json.specs.Written.{comma_if, compact_text};
-ghost use Rattle.md_examine.specs.Sink.{PutsOrFails};
+ghost use Rattle.md_streams.specs.Sink.{PutsOrFails};
 ghost use Rattle.md_report.specs.AsJson.WholeArray.MemberObjects.{texts_of};
 ghost use Rattle.md_report.specs.AsJson.Objects.{elements_text, later_text, object_line, list_of, next_text, whole};
 ghost use Rattle.md_report.specs.AsJson.Rebuilds.PlanObject.{certificate_object, certificate_value, plan_fields, plan_object, slot_object};
@@ -13,7 +13,7 @@ use crate::as_json::whole_array::member_objects::members;
 use md_array::Mirror;
 use md_cert::{Certificate, Plan, Slot};
 use md_device::Device;
-use md_examine::{Sink, SinkFault};
+use md_streams::{Sink, SinkFault};
 
 /// Writes a plan as an object, alone in its line: which chunk is read from which source in which round, the chunks
 /// that show why fewer rounds are too few, those that no source has, and the members of the array, of which `images`
@@ -114,7 +114,7 @@ fn number_elements<S: Sink>(out: &mut S, numbers: &[u32]) -> Result<(), SinkFaul
     Ok(())
 }
 
-#[tactic(auto, using(md_examine::proofs::Puts::puts_then))]
+#[tactic(auto, using(md_streams::proofs::Puts::puts_then))]
 fn number_element<S: Sink>(out: &mut S, later: bool, n: u32) -> Result<(), SinkFault>
     ensures { PutsOrFails S.contents S.failed out.old out.new (comma_if later ++ decimal n) result }
 {
@@ -146,7 +146,7 @@ fn slot_elements<S: Sink>(out: &mut S, slots: &[Slot]) -> Result<(), SinkFault>
     Ok(())
 }
 
-#[tactic(auto, using(md_examine::proofs::Puts::puts_then))]
+#[tactic(auto, using(md_streams::proofs::Puts::puts_then))]
 fn slot_element<S: Sink>(out: &mut S, later: bool, slot: &Slot) -> Result<(), SinkFault>
     ensures { PutsOrFails S.contents S.failed out.old out.new
         (comma_if later ++ compact_text (slot_object slot.now)) result }

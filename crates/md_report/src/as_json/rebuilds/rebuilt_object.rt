@@ -1,11 +1,11 @@
 // The object of a rebuild that is done.
-ghost use Rattle.md_examine.specs.Sink.{PutsOrFails};
+ghost use Rattle.md_streams.specs.Sink.{PutsOrFails};
 ghost use Rattle.md_report.specs.AsJson.Objects.{later_text, object_line};
 ghost use Rattle.md_report.specs.AsJson.Rebuilds.RebuiltObject.{rebuilt_fields, rebuilt_object};
 
 use crate::as_json::rebuilds::plan_object::number_list;
 use crate::as_json::values::{close, next_number, open};
-use md_examine::{Sink, SinkFault};
+use md_streams::{Sink, SinkFault};
 
 /// Writes a rebuild that is done as an object, alone in its line: the member by its index, how many passes there were, and the
 /// chunks that no source had. It takes no memory, and fails only where the sink has failed.

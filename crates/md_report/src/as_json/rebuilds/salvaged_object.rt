@@ -1,7 +1,7 @@
 // The object of a rebuild that lists bad sectors, and not their chunks.
 ghost use Rattle.std.specs.Prelude.{◌≡◌, codes};
 ghost use Rattle.serde_json.specs.Written.{compact_text};
-ghost use Rattle.md_examine.specs.Sink.{PutsOrFails};
+ghost use Rattle.md_streams.specs.Sink.{PutsOrFails};
 ghost use Rattle.md_report.specs.AsJson.OneImage.BadblocksObject.{run_object};
 ghost use Rattle.md_report.specs.AsJson.Objects.{later_text, list_of, next_text, object_line};
 ghost use Rattle.md_report.specs.AsJson.Rebuilds.SalvagedObject.{salvaged_fields, salvaged_object};
@@ -10,8 +10,8 @@ use crate::as_json::one_image::badblocks_object::run_elements;
 use crate::as_json::values::{close, next_key, next_number, open};
 use crate::as_text::besides;
 use md_badblocks::{BadSet, Run};
-use md_examine::{Sink, SinkFault};
 use md_notices::count_sectors;
+use md_streams::{Sink, SinkFault};
 
 /// Writes such a rebuild as an object, alone in its line: the member by its index, how many sectors no member in sync gave,
 /// how many were listed besides, as a log had no room for so many runs, and the runs of those that are lost. It takes no

@@ -1,8 +1,7 @@
 // The objects of a whole array.
 ghost use Rattle.std.specs.Prelude.{◌≡◌};
 ghost use Rattle.md_assembly.specs.States.{is_in_sync};
-ghost use Rattle.md_examine.specs.Sink.{PutsOrFails};
-ghost use Rattle.md_report.specs.AsText.WholeArray.SummaryReport.{in_sync_members};
+ghost use Rattle.md_streams.specs.Sink.{PutsOrFails};
 ghost use Rattle.md_report.specs.AsJson.WholeArray.ArrayObjects.{condition_fields, detail_object, shared_fields, summary_fields, summary_object};
 ghost use Rattle.md_report.specs.AsJson.WholeArray.MemberObjects.{texts_of};
 ghost use Rattle.md_report.specs.AsJson.Objects.{later_text, object_line};
@@ -10,17 +9,18 @@ ghost use Rattle.md_report.specs.AsJson.Objects.{later_text, object_line};
 use crate::as_json::values::{
     close, next_bool, next_cleanness, next_name, next_number, next_uuid, open,
 };
+use crate::as_json::whole_array::kernel_field::kernel_field;
 use crate::as_json::whole_array::member_objects::members;
 use crate::as_json::whole_array::recovering_list::recovering;
 use crate::as_json::whole_array::standing_lists::standing_lists;
-use crate::as_text::members_in_sync;
 use md_array::Mirror;
 use md_device::Device;
-use md_examine::{Sink, SinkFault};
+use md_notices::in_sync_count;
+use md_streams::{Sink, SinkFault};
 use md_super::Superblock;
 
-/// Writes an array in short as an object, alone in its line, with its members, of which `images` are the names. `kind` is the
-/// command that shows it. It takes no memory, and fails only where the sink has failed.
+/// Writes an array in short as an object, alone in its line, with its members, of which `images` are the names, and what is to be run
+/// before a kernel is given it. `kind` is the command that shows it. It takes no memory, and fails only where the sink has failed.
 pub fn summary_json<S: Sink, D: Device + Drop>(
     out: &mut S,
     kind: &str,
@@ -33,12 +33,13 @@ pub fn summary_json<S: Sink, D: Device + Drop>(
     open(out, kind)?;
     summary(out, mirror)?;
     members(out, mirror, images)?;
+    kernel_field(out, mirror)?;
     close(out)?;
     Ok(())
 }
 
 /// Writes an array in detail as an object, alone in its line, with its members, of which `images` are the names, and then what
-/// `standing_lists` and `recovering` write. It takes no memory, and fails only where the sink has failed.
+/// `standing_lists`, `recovering` and `kernel_field` write. It takes no memory, and fails only where the sink has failed.
 pub fn detail_json<S: Sink, D: Device + Drop>(
     out: &mut S,
     mirror: &Mirror<D>,
@@ -53,6 +54,7 @@ pub fn detail_json<S: Sink, D: Device + Drop>(
     members(out, mirror, images)?;
     standing_lists(out, mirror)?;
     recovering(out, mirror)?;
+    kernel_field(out, mirror)?;
     close(out)?;
     Ok(())
 }
@@ -61,7 +63,7 @@ fn summary<S: Sink, D: Device + Drop>(out: &mut S, mirror: &Mirror<D>) -> Result
     ensures { PutsOrFails S.contents S.failed out.old out.new
         (later_text (summary_fields mirror.now.array)) result }
 {
-    next_number(out, "in_sync", members_in_sync(mirror))?;
+    next_number(out, "in_sync", in_sync_count(mirror))?;
     next_number(out, "raid_devices", mirror.shared().raid_disks)?;
     next_number(out, "events", mirror.events())?;
     next_number(out, "marked_chunks", mirror.marks().count())?;
@@ -82,7 +84,7 @@ fn condition<S: Sink, D: Device + Drop>(out: &mut S, mirror: &Mirror<D>) -> Resu
     ensures { PutsOrFails S.contents S.failed out.old out.new
         (later_text (condition_fields mirror.now.array)) result }
 {
-    next_number(out, "in_sync", members_in_sync(mirror))?;
+    next_number(out, "in_sync", in_sync_count(mirror))?;
     next_cleanness(out, mirror.shared())?;
     next_bool(out, "degraded", mirror.degraded())?;
     next_bool(out, "resync_needed", !mirror.resynced())?;

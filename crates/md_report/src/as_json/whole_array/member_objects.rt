@@ -4,7 +4,7 @@ ghost use Rattle.std.specs.List.{slice_get};
 ghost use Rattle.json.specs.Print.{quoted};
 ghost use Rattle.serde_json.specs.Written.{comma_if, compact_text};
 ghost use Rattle.md_assembly.specs.States.{role_of};
-ghost use Rattle.md_examine.specs.Sink.{PutsOrFails};
+ghost use Rattle.md_streams.specs.Sink.{PutsOrFails};
 ghost use Rattle.md_report.specs.AsText.WholeArray.DetailReport.{standing_text};
 ghost use Rattle.md_report.specs.AsJson.WholeArray.ArrayObjects.{members_fields};
 ghost use Rattle.md_report.specs.AsJson.WholeArray.MemberObjects.{image_value, member_object, member_texts, number_or_null, texts_of, word_or_null};
@@ -17,8 +17,8 @@ use crate::as_json::values::{
 use md_array::Mirror;
 use md_assembly::MemberState;
 use md_device::Device;
-use md_examine::{Sink, SinkFault};
 use md_kept_members::is_write_mostly;
+use md_streams::{Sink, SinkFault};
 
 /// The last field of a report on an array: its members, of which `images` are the names.
 pub(crate) fn members<S: Sink, D: Device + Drop>(
@@ -61,7 +61,7 @@ fn member_items<S: Sink, D: Device + Drop>(
 }
 
 // A member after a comma, unless it is the first.
-#[tactic(auto, using(md_examine::proofs::Puts::puts_then))]
+#[tactic(auto, using(md_streams::proofs::Puts::puts_then))]
 fn member_item<S: Sink>(
     out: &mut S,
     images: &[&str],
@@ -102,7 +102,7 @@ fn member<S: Sink>(
     Ok(())
 }
 
-#[tactic(auto, using(md_examine::proofs::Puts::puts_then))]
+#[tactic(auto, using(md_streams::proofs::Puts::puts_then))]
 fn open_member<S: Sink>(out: &mut S, images: &[&str], index: usize) -> Result<(), SinkFault>
     ensures { PutsOrFails S.contents S.failed out.old out.new
         (123 ∷ (key_text (codes "image") ++ compact_text (image_value (texts_of images.now) index))) result }

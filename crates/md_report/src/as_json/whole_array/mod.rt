@@ -3,6 +3,7 @@
 //!
 //! Start with `summary_json` and `detail_json`.
 mod array_objects;
+mod kernel_field;
 pub(crate) mod member_objects;
 mod recovering_list;
 pub(crate) mod standing_lists;

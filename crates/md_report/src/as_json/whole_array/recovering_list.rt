@@ -1,7 +1,7 @@
 // How far recovering members are rebuilt, as objects.
 ghost use Rattle.std.specs.Prelude.{◌++◌, codes, false};
 ghost use Rattle.serde_json.specs.Written.{comma_if, compact_text};
-ghost use Rattle.md_examine.specs.Sink.{PutsOrFails};
+ghost use Rattle.md_streams.specs.Sink.{PutsOrFails};
 ghost use Rattle.md_report.specs.Recovery.{recoveries};
 ghost use Rattle.md_report.specs.AsJson.Objects.{elements_text, later_text, list_of, next_text};
 ghost use Rattle.md_report.specs.AsJson.WholeArray.RecoveringList.{element_if, recovering_fields, recovery_object};
@@ -10,7 +10,7 @@ use crate::as_json::values::{comma_if, next_key, next_number, open_number, stand
 use crate::recovery::{Recovery, recovery_at};
 use md_array::Mirror;
 use md_device::Device;
-use md_examine::{Sink, SinkFault};
+use md_streams::{Sink, SinkFault};
 
 /// The last field of a report in detail: how far each recovering member is.
 pub(crate) fn recovering<S: Sink, D: Device + Drop>(
@@ -68,7 +68,7 @@ fn put_element_if<S: Sink>(
     }
 }
 
-#[tactic(auto, using(md_examine::proofs::Puts::puts_then))]
+#[tactic(auto, using(md_streams::proofs::Puts::puts_then))]
 fn put_element<S: Sink>(out: &mut S, later: bool, recovery: Recovery) -> Result<(), SinkFault>
     ensures { PutsOrFails S.contents S.failed out.old out.new
         (comma_if later ++ compact_text (recovery_object recovery)) result }

@@ -1,7 +1,7 @@
 // The lists of a report in detail.
 ghost use Rattle.std.specs.Prelude.{◌≡◌, ◌<◌, ◌++◌, codes, false, if◌then◌else◌, length, []};
 ghost use Rattle.serde_json.specs.Written.{comma_if, compact_text};
-ghost use Rattle.md_examine.specs.Sink.{PutsOrFails};
+ghost use Rattle.md_streams.specs.Sink.{PutsOrFails};
 ghost use Rattle.md_notices.specs.Noticing.{is_parted_at};
 ghost use Rattle.md_report.specs.AsJson.OneImage.BadblocksObject.{run_object};
 ghost use Rattle.md_report.specs.AsJson.Objects.{elements_text, later_text, list_of, next_text, whole};
@@ -13,8 +13,8 @@ use md_array::Mirror;
 use md_assembly::MemberState;
 use md_badblocks::Run;
 use md_device::Device;
-use md_examine::{Sink, SinkFault};
 use md_notices::is_parted;
+use md_streams::{Sink, SinkFault};
 
 /// The roles that no member has, the members that were used without those in sync, and the sectors that each member lists as bad.
 pub(crate) fn standing_lists<S: Sink, D: Device + Drop>(
@@ -150,7 +150,7 @@ fn bad_elements<S: Sink, D: Device + Drop>(out: &mut S, mirror: &Mirror<D>) -> R
     Ok(())
 }
 
-#[tactic(auto, using(md_examine::proofs::Puts::puts_then))]
+#[tactic(auto, using(md_streams::proofs::Puts::puts_then))]
 fn bad_element<S: Sink>(out: &mut S, later: bool, runs: &[Run]) -> Result<(), SinkFault>
     ensures { PutsOrFails S.contents S.failed out.old out.new
         (comma_if later ++ compact_text (list_of run_object runs.now)) result }

@@ -1,16 +1,17 @@
 // The report of a rebuild's plan.
 ghost use Rattle.std.specs.List.{flat_map};
-ghost use Rattle.md_examine.specs.Sink.{PutsOrFails};
+ghost use Rattle.md_streams.specs.Sink.{PutsOrFails};
 ghost use Rattle.md_report.specs.AsText.Rebuilds.PlanReport.{certificate_text, chunks_text, columns_text, heading_text, orphans_text, plan_text, short_set_text, slot_text, totals_text};
 
 use itoa::Buffer;
 use md_cert::{Certificate, Plan, Slot};
-use md_examine::{Sink, SinkFault, number_after, right_aligned};
+use md_examine::right_aligned;
+use md_streams::{Sink, SinkFault, number_after};
 
 /// Writes which chunk is read from which source in which round, a line for each in the plan's order,
 /// then the chunks that show why fewer rounds are too few, and the orphans: the chunks that no source
 /// has. It takes no memory, and fails only where the sink has failed.
-#[tactic(auto, unfolding(crate::specs::AsText::Rebuilds::PlanReport::plan_text), using(md_examine::proofs::Puts::puts_then))]
+#[tactic(auto, unfolding(crate::specs::AsText::Rebuilds::PlanReport::plan_text), using(md_streams::proofs::Puts::puts_then))]
 pub fn plan_report<S: Sink>(
     out: &mut S,
     plan: &Plan,
@@ -28,7 +29,7 @@ pub fn plan_report<S: Sink>(
     Ok(())
 }
 
-#[tactic(auto, unfolding(crate::specs::AsText::Rebuilds::PlanReport::totals_text), using(md_examine::proofs::Puts::puts_then))]
+#[tactic(auto, unfolding(crate::specs::AsText::Rebuilds::PlanReport::totals_text), using(md_streams::proofs::Puts::puts_then))]
 fn totals<S: Sink>(out: &mut S, rounds: u32, chunks: usize, orphans: usize) -> Result<(), SinkFault>
     ensures { PutsOrFails S.contents S.failed out.old out.new (totals_text rounds chunks orphans) result }
 {
@@ -68,7 +69,7 @@ fn slot_line<S: Sink>(out: &mut S, slot: &Slot) -> Result<(), SinkFault>
     )
 }
 
-#[tactic(auto, unfolding(crate::specs::AsText::Rebuilds::PlanReport::columns_text), using(md_examine::proofs::Puts::puts_then))]
+#[tactic(auto, unfolding(crate::specs::AsText::Rebuilds::PlanReport::columns_text), using(md_streams::proofs::Puts::puts_then))]
 fn columns<S: Sink>(out: &mut S, chunk: &[u8], source: &[u8], round: &[u8]) -> Result<(), SinkFault>
     ensures { PutsOrFails S.contents S.failed out.old out.new (columns_text chunk.now source.now round.now) result }
 {
@@ -105,7 +106,7 @@ fn short_set<S: Sink>(out: &mut S, certificate: &Certificate) -> Result<(), Sink
     Ok(())
 }
 
-#[tactic(auto, unfolding(crate::specs::AsText::Rebuilds::PlanReport::orphans_text), using(md_examine::proofs::Puts::puts_then))]
+#[tactic(auto, unfolding(crate::specs::AsText::Rebuilds::PlanReport::orphans_text), using(md_streams::proofs::Puts::puts_then))]
 fn orphans_line<S: Sink>(out: &mut S, orphans: &[u32]) -> Result<(), SinkFault>
     ensures { PutsOrFails S.contents S.failed out.old out.new (orphans_text orphans.now) result }
 {

@@ -1,16 +1,16 @@
 // The report of a rebuild.
 ghost use Rattle.std.specs.List.{flat_map};
-ghost use Rattle.md_examine.specs.Sink.{PutsOrFails};
+ghost use Rattle.md_streams.specs.Sink.{PutsOrFails};
 ghost use Rattle.md_report.specs.AsText.Rebuilds.RebuiltReport.{planned_text, rebuilt_line, rebuilt_text};
 
 use crate::as_text::rebuilds::plan_lines::plan_report;
-use md_examine::{Sink, SinkFault, number_after};
-use md_plan::Planned;
+use md_cert::Planned;
+use md_streams::{Sink, SinkFault, number_after};
 
 /// Writes the plan of each pass of a rebuild, and then one line: the member by its index, how many passes
 /// there were, and how many chunks no source had. It takes no memory, and fails only where the sink has
 /// failed.
-#[tactic(auto, unfolding(crate::specs::AsText::Rebuilds::RebuiltReport::rebuilt_text), using(md_examine::proofs::Puts::puts_then))]
+#[tactic(auto, unfolding(crate::specs::AsText::Rebuilds::RebuiltReport::rebuilt_text), using(md_streams::proofs::Puts::puts_then))]
 pub fn rebuilt_report<S: Sink>(
     out: &mut S,
     member: u32,
@@ -43,7 +43,7 @@ pub(crate) fn planned_report<S: Sink>(out: &mut S, planned: &Planned) -> Result<
 }
 
 /// Writes that line alone.
-#[tactic(auto, unfolding(crate::specs::AsText::Rebuilds::RebuiltReport::rebuilt_line), using(md_examine::proofs::Puts::puts_then))]
+#[tactic(auto, unfolding(crate::specs::AsText::Rebuilds::RebuiltReport::rebuilt_line), using(md_streams::proofs::Puts::puts_then))]
 pub fn rebuilt_line_report<S: Sink>(
     out: &mut S,
     member: u32,

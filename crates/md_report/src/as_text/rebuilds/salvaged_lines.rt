@@ -1,18 +1,18 @@
 // The report of a rebuild that lists bad sectors, and not their chunks.
 ghost use Rattle.std.specs.Prelude.{◌≡◌};
-ghost use Rattle.md_examine.specs.Sink.{PutsOrFails};
+ghost use Rattle.md_streams.specs.Sink.{PutsOrFails};
 ghost use Rattle.md_report.specs.AsText.Rebuilds.SalvagedReport.{besides, first_lost_text, salvaged_line, salvaged_text};
 
 use crate::as_text::rebuilds::rebuilt_lines::planned_report;
 use md_badblocks::{BadSet, Run};
-use md_examine::{Sink, SinkFault, number_after};
+use md_cert::Planned;
 use md_notices::count_sectors;
-use md_plan::Planned;
+use md_streams::{Sink, SinkFault, number_after};
 
 /// Writes the plan of the pass of such a rebuild, and then one line: the member by its index, how many sectors no member in
 /// sync gave, the first of them, and how many were listed besides, as a log had no room for so many runs. It takes no memory,
 /// and fails only where the sink has failed.
-#[tactic(auto, unfolding(crate::specs::AsText::Rebuilds::SalvagedReport::salvaged_text), using(md_examine::proofs::Puts::puts_then))]
+#[tactic(auto, unfolding(crate::specs::AsText::Rebuilds::SalvagedReport::salvaged_text), using(md_streams::proofs::Puts::puts_then))]
 pub fn salvaged_report<S: Sink>(
     out: &mut S,
     member: u32,

@@ -1,18 +1,17 @@
 // The report of an array.
 ghost use Rattle.std.specs.Prelude.{◌≡◌, codes};
-ghost use Rattle.md_examine.specs.Sink.{PutsOrFails};
+ghost use Rattle.md_streams.specs.Sink.{PutsOrFails};
 ghost use Rattle.md_examine.specs.Lines.{line_text, column};
 ghost use Rattle.md_report.specs.AsText.WholeArray.DetailReport.{shared_lines, text_where, condition_text, marked_text, condition_lines, detail_text};
 
 use crate::as_text::whole_array::member_lines::member_lines;
-use crate::as_text::whole_array::summary_report::members_in_sync;
 use itoa::Buffer;
 use md_array::Mirror;
 use md_bitmap::Marks;
 use md_device::Device;
-use md_examine::{
-    Sink, SinkFault, cleanness, decimal_line, name_line, sectors_line, three_part_line, uuid_line,
-};
+use md_examine::{cleanness, decimal_line, name_line, sectors_line, three_part_line, uuid_line};
+use md_notices::in_sync_count;
+use md_streams::{Sink, SinkFault};
 use md_super::Superblock;
 
 /// Writes the report of an array, eight labelled lines and a line for each member. It takes no
@@ -44,7 +43,7 @@ pub(crate) fn condition<S: Sink, D: Device + Drop>(
 ) -> Result<(), SinkFault>
     ensures { PutsOrFails S.contents S.failed out.old out.new (condition_lines mirror.now.array) result }
 {
-    decimal_line(out, "In Sync        ", members_in_sync(mirror))?;
+    decimal_line(out, "In Sync        ", in_sync_count(mirror))?;
     state(out, mirror)?;
     decimal_line(out, "Events         ", mirror.events())?;
     marked_line(out, mirror.marks())?;

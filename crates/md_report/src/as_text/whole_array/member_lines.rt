@@ -1,6 +1,6 @@
 // The members of an array, a line for each.
 ghost use Rattle.std.specs.Prelude.{◌≡◌, codes};
-ghost use Rattle.md_examine.specs.Sink.{PutsOrFails};
+ghost use Rattle.md_streams.specs.Sink.{PutsOrFails};
 ghost use Rattle.md_assembly.specs.States.{role_of};
 ghost use Rattle.md_report.specs.AsText.WholeArray.DetailReport.{member_lines, member_text, place_text, role_text_or_dash, standing_text, text_where};
 
@@ -9,8 +9,9 @@ use itoa::Integer;
 use md_array::Mirror;
 use md_assembly::MemberState;
 use md_device::Device;
-use md_examine::{Sink, SinkFault, right_aligned, right_aligned_number};
+use md_examine::{right_aligned, right_aligned_number};
 use md_kept_members::is_write_mostly;
+use md_streams::{Sink, SinkFault};
 
 // The places of a number.
 const PLACES: usize = 6;
@@ -64,7 +65,7 @@ pub(crate) fn flag<S: Sink>(out: &mut S, mostly: bool) -> Result<(), SinkFault>
 }
 
 /// A number in its place.
-#[tactic(auto, using(md_examine::proofs::Puts::puts_then))]
+#[tactic(auto, using(md_streams::proofs::Puts::puts_then))]
 pub(crate) fn number<S: Sink, I: Integer>(out: &mut S, n: I) -> Result<(), SinkFault>
     ensures { PutsOrFails S.contents S.failed out.old out.new (place_text (I.text n)) result }
 {
@@ -85,7 +86,7 @@ pub(crate) fn role<S: Sink>(out: &mut S, state: MemberState) -> Result<(), SinkF
     }
 }
 
-#[tactic(auto, using(md_examine::proofs::Puts::puts_then))]
+#[tactic(auto, using(md_streams::proofs::Puts::puts_then))]
 fn dash<S: Sink>(out: &mut S) -> Result<(), SinkFault>
     ensures { PutsOrFails S.contents S.failed out.old out.new (place_text (codes "-")) result }
 {

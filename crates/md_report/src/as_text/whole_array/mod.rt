@@ -8,5 +8,5 @@ mod summary_report;
 mod verbose_report;
 
 pub use detail_report::detail;
-pub use summary_report::{members_in_sync, summary};
+pub use summary_report::summary;
 pub use verbose_report::verbose_detail;

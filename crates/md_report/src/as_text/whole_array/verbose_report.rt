@@ -1,7 +1,7 @@
 // The report of an array, with the images of its members.
 ghost use Rattle.std.specs.Prelude.{◌≡◌, codes};
-ghost use Rattle.md_examine.specs.Sink.{PutsOrFails};
-ghost use Rattle.md_examine.specs.ShownNames.Shown.{shown};
+ghost use Rattle.md_streams.specs.Sink.{PutsOrFails};
+ghost use Rattle.md_streams.specs.ShownNames.Shown.{shown};
 ghost use Rattle.md_report.specs.AsText.WholeArray.VerboseReport.{image_name, image_text, named_lines, named_text, verbose_text};
 ghost use Rattle.md_report.specs.AsJson.WholeArray.MemberObjects.{texts_of};
 
@@ -12,8 +12,8 @@ use crate::recovery::recovery_lines;
 use md_array::Mirror;
 use md_assembly::MemberState;
 use md_device::Device;
-use md_examine::{Sink, SinkFault, put_name};
 use md_kept_members::is_write_mostly;
+use md_streams::{Sink, SinkFault, put_name};
 
 /// Writes the report of an array, as `detail` does, with a line for each recovering member that says how far it is, a line over
 /// those of the members, of which `images` are the names, and the name of its image at the end of each of these. It takes no memory, and fails only where the sink has failed.
@@ -79,7 +79,7 @@ fn named_line<S: Sink>(
 }
 
 // The image, and the end of the line.
-#[tactic(auto, using(md_examine::proofs::Puts::puts_then))]
+#[tactic(auto, using(md_streams::proofs::Puts::puts_then))]
 fn image<S: Sink>(out: &mut S, images: &[&str], index: usize) -> Result<(), SinkFault>
     ensures { PutsOrFails S.contents S.failed out.old out.new
         (image_text (texts_of images.now) index) result }

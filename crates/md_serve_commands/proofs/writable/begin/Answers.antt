@@ -1,5 +1,5 @@
 use Rattle.std.proofs.Common.{refl}
-use Rattle.md_commands.proofs.Wrapped.{own_ok}
+use Rattle.md_refusals.proofs.Wrapped.{own_ok}
 use Rattle.md_serve_commands.proofs.writable.begin.Goals as goal
 
 pub make_ready-requires-clause-may : goal.make_ready-requires-clause-may

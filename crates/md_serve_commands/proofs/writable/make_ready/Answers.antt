@@ -1,6 +1,6 @@
 use Rattle.std.proofs.Common.{rules, Err, ◌≡◌, refl}
-use Rattle.md_commands.specs.declared.fault.CommandFault.TheVariants.{Resync}
-use Rattle.md_commands.proofs.Wrapped.{own_err, own_ok}
+use Rattle.md_refusals.specs.declared.fault.CommandFault.TheVariants.{Resync}
+use Rattle.md_refusals.proofs.Wrapped.{own_err, own_ok}
 use Rattle.md_serve_commands.proofs.Written.{is_ready}
 use Rattle.md_serve_commands.proofs.writable.make_ready.Goals as goal
 

@@ -1,6 +1,6 @@
 use Rattle.std.proofs.Common.{rules, Err, ◌≡◌, ◌∙◌, inl, inr, sym}
-use Rattle.md_commands.specs.declared.fault.CommandFault.TheVariants.{OutputFault}
-use Rattle.md_nbd.specs.declared.server.session.SessionFault.TheVariants as session
+use Rattle.md_refusals.specs.declared.fault.CommandFault.TheVariants.{OutputFault}
+use Rattle.md_nbd.specs.declared.server.session_fault.SessionFault.TheVariants as session
 use Rattle.md_serve_commands.proofs.Written.{broken_pending, broken_told, export_by, served_client, session_pending, session_told}
 use Rattle.md_serve_commands.proofs.writable.serve.Goals as goal
 

@@ -1,6 +1,6 @@
 use Rattle.std.proofs.Common.{rules, Err, ◌≡◌, ◌∙◌, ap, inl, inr, refl, subst, sym}
-use Rattle.md_commands.specs.declared.fault.CommandFault.TheVariants.{Stop, Write}
-use Rattle.md_commands.proofs.Wrapped.{own_err, own_ok}
+use Rattle.md_refusals.specs.declared.fault.CommandFault.TheVariants.{Stop, Write}
+use Rattle.md_refusals.proofs.Wrapped.{own_err, own_ok}
 use Rattle.md_serve_commands.specs.Waiting.{IsFreshWriter}
 use Rattle.md_serve_commands.specs.Writable.{told_after}
 use Rattle.md_serve_commands.proofs.Written.{answer_is}

@@ -25,7 +25,7 @@ pub returns-clause-verbose : goal.returns-clause-verbose
 returns-clause-verbose c =
     let found = found_of c.in-Some.found.now in
     let is : subcommand_rows_of c.args.matches.now ≡ Some (c.in-Some.name.now, rows_of found) = subcommand_is c.args.matches.now c.in-Some.name.now (rows_of found) (sym c.in-Some.ensures.name) (sym c.in-Some.ensures.rows) in
-    c.is_verbose.ensures ∙ verbose_read c.args.matches.now c.in-Some.name.now found is
+    c.has_flag-2.ensures ∙ verbose_read c.args.matches.now c.in-Some.name.now found is
 
 pub returns-clause-map_out : goal.returns-clause-map_out
 returns-clause-map_out c =

@@ -2,7 +2,7 @@ use Rattle.std.proofs.Common.{◌≡◌, ◌∙◌, ◌<◌, codes, length, map,
 use Rattle.std.specs.Prelude.{slice_get}
 use Rattle.std.proofs.lemmas.List.{length-map}
 use Rattle.md_state.specs.View.{disk_of}
-use Rattle.md_commands.specs.declared.fault.CommandFault.TheVariants.{MetadataFault}
+use Rattle.md_refusals.specs.declared.fault.CommandFault.TheVariants.{MetadataFault}
 use Rattle.md_commands.specs.Objects.{summary_shown}
 use Rattle.md_messages.specs.Telling.{texts}
 use Rattle.md_cli.specs.Arrays.{ShowsDevices}

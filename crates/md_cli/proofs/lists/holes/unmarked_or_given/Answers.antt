@@ -3,8 +3,8 @@ use Rattle.md_cli.proofs.lists.holes.unmarked_or_given.Goals as goal
 
 pub returns-then-not-has_two_in_sync : goal.returns-then-not-has_two_in_sync
 returns-then-not-has_two_in_sync g c =
-    if_ok c.same_list.result (λ list same. alone_are c.args.lacking.now c.args.mirror.now.array c.args.holes.now list (c.has_two_in_sync.ensures.one (let no = c.if-not-has_two_in_sync.true in cc)) same)
-    c.same_list.ensures.same
+    if_ok c.try_clone.result (λ list same. alone_are c.args.lacking.now c.args.mirror.now.array c.args.holes.now list (c.has_two_in_sync.ensures.one (let no = c.if-not-has_two_in_sync.true in cc)) same)
+    c.try_clone.ensures.same
 
 pub returns : goal.returns
 returns g c =

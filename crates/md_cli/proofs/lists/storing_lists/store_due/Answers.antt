@@ -1,5 +1,5 @@
 use Rattle.std.proofs.Common.{◌∙◌, ap, inl, inr, refl, sym}
-use Rattle.md_commands.specs.declared.fault.CommandFault.TheVariants.{Rebuild}
+use Rattle.md_refusals.specs.declared.fault.CommandFault.TheVariants.{Rebuild}
 use Rattle.md_cli.proofs.Stored.{due_as_many, due_sound, not_due_as_many}
 use Rattle.md_cli.proofs.lists.storing_lists.store_due.Goals as goal
 

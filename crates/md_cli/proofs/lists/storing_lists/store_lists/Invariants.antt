@@ -1,6 +1,6 @@
 use Rattle.std.proofs.Common.{◌≡◌, length}
 use Rattle.md_array.specs.Consistency.{IsConsistent}
-use Rattle.md_commands.specs.declared.fault.CommandFault.{CommandFault}
+use Rattle.md_refusals.specs.declared.fault.CommandFault.{CommandFault}
 use Rattle.md_state.specs.View.{MirrorView}
 use Rattle.md_cli.specs.StoringLists.{FailsFrom, StoresFrom}
 use Rattle.md_cli.proofs.lists.storing_lists.store_lists.Given as goal

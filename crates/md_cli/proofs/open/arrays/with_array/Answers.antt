@@ -1,12 +1,12 @@
 use Rattle.md_device.specs.declared.device.Device.{Ghosts as DeviceGhosts}
-use Rattle.std.proofs.Common.{◌≡◌, ◌∙◌, ◌<◌, ℕ, Bool, true, false, true≢false, List, Option, Result, Err, Ok, length, map, ap, option_map, subst, sym, inr, refl, rules}
+use Rattle.std.proofs.Common.{◌≡◌, ◌∙◌, ◌<◌, ℕ, Bool, true, false, true≢false, List, Option, None, Result, Err, Ok, length, map, ap, option_map, subst, sym, inr, refl, rules}
 use Rattle.std.specs.Prelude.{is_some}
 use Rattle.std.proofs.lemmas.List.{length-map}
 use Rattle.std.proofs.lemmas.Result.{err_from_is_err_and}
-use Rattle.md_commands.specs.Faults.{of_images}
-use Rattle.md_commands.specs.declared.fault.CommandFault.{CommandFault}
-use Rattle.md_commands.specs.declared.source.Source.{Ghosts as SourceGhosts}
-use Rattle.md_examine.specs.declared.sink.Sink.{Ghosts as SinkGhosts}
+use Rattle.md_refusals.specs.Faults.{of_images}
+use Rattle.md_refusals.specs.declared.fault.CommandFault.{CommandFault}
+use Rattle.md_streams.specs.declared.source.Source.{Ghosts as SourceGhosts}
+use Rattle.md_streams.specs.declared.sink.Sink.{Ghosts as SinkGhosts}
 use Rattle.md_images.specs.declared.access.Access.{Access}
 use Rattle.md_images.specs.declared.fault.ImagesFault.{ImagesFault}
 use Rattle.md_images.specs.declared.fault.ImagesFault.TheVariants.{BadImage, NoMemory}
@@ -17,7 +17,8 @@ use Rattle.md_images.proofs.Taken.{restored}
 use Rattle.md_words.specs.Asks.{Ask, access_of, array_ask, is_readonly}
 use Rattle.md_messages.specs.Telling.{texts}
 use Rattle.md_messages.specs.Question.{question}
-use Rattle.md_messages.specs.declared.asker.Asker.{Ghosts as AskerGhosts}
+use Rattle.md_streams.specs.declared.asker.Asker.{Ghosts as AskerGhosts}
+use Rattle.md_cli.specs.AllNamed.{ChecksNamed}
 use Rattle.md_cli.specs.Arrays.{KeepsImages, LooksAtDevices, UsesImages, WorksBy, WorksOn, disks, may, names_with}
 use Rattle.md_cli.specs.Growing.{chunk_in_memory}
 use Rattle.md_cli.specs.Lacking.{Maps}
@@ -39,10 +40,10 @@ module _ {I D R S A : Type 0} (i : ImagesGhosts I D) (g : DeviceGhosts D) (r : S
   -- the kind of the bitmap is taken, and the images that are opened are those of the names
   opens_so : (chunk : Option ℕ) → Ok chunk ≡ chunk_in_memory bitmap
       → (inner : List Text) → inner ≡ names_with ask names → (words : List Word) → words ≡ image_list false inner → (access : Access) → access ≡ access_of ask
-      → (is_readonly ask ≡ true → KeepsImages i before after) → UsesImages i g (WorksOn r s (question asker ask inner) inner lacking ask chunk) access words before after old new result
+      → (is_readonly ask ≡ true → KeepsImages i before after) → UsesImages i g (WorksOn r s (question asker ask inner) (ChecksNamed asker ask None) inner lacking ask chunk) access words before after old new result
       → OpensWithBitmap i g r s asker lacking bitmap ask names before after old new result
   opens_so chunk taken inner named words are access opened kept uses =
-      let Using : List Text → Access → List Word → Type 0 = λ inner access words. UsesImages i g (WorksOn r s (question asker ask inner) inner lacking ask chunk) access words before after old new result in
+      let Using : List Text → Access → List Word → Type 0 = λ inner access words. UsesImages i g (WorksOn r s (question asker ask inner) (ChecksNamed asker ask None) inner lacking ask chunk) access words before after old new result in
       by_kind i g r s asker lacking bitmap ask names before after old new result (Ok chunk) taken (record {
         kept = kept;
         done = subst (λ (all : List Text). Using all (access_of ask) (image_list false all)) named
@@ -56,8 +57,8 @@ module _ {I D R S A : Type 0} (i : ImagesGhosts I D) (g : DeviceGhosts D) (r : S
     done = inr (record { fault = NoMemory; is = is; refused = same; unwritten = idle });
   })
 
-pub open_devices-devices-requires-clause-brings : goal.open_devices-devices-requires-clause-brings
-open_devices-devices-requires-clause-brings g c κs within = λ there.
+pub change_devices-devices-requires-clause-brings : goal.change_devices-devices-requires-clause-brings
+change_devices-devices-requires-clause-brings g c κs within = λ there.
     let inner = texts c.as_slice-names.result.now in
     let words_are : map word_of c.as_slice-words.result.now ≡ image_list false inner = ap (map word_of) c.as_slice-words.ensures.value ∙ c.in-Ok-image_list.ensures in
     let many = c.in_ok-devices.ensures.gives.many ∙ ap length words_are ∙ all_named inner ∙ length-map c.as_slice-names.result.now (λ s. s.now) ∙ ap length c.as_slice-names.ensures.value in
@@ -131,8 +132,8 @@ returns-then-is_readonly-clause-gives g c =
     let all = disks g.I.Dev.Device devices in
     let same : c.deref.result.now ≡ devices = search rules in
     let looks = subst (λ items. LooksAtDevices g.R.Source g.S.Sink asked inner c.args.session.now.lacking.now ask c.in_ok-chunk.chunk (disks g.I.Dev.Device items) old new call.result) same call.ensures.gives in
-    let works : WorksOn g.R.Source g.S.Sink asked inner c.args.session.now.lacking.now ask c.in_ok-chunk.chunk all all old new call.result =
-    subst (λ (b : Bool). WorksBy g.R.Source g.S.Sink asked inner c.args.session.now.lacking.now ask c.in_ok-chunk.chunk b all all old new call.result) (sym c.if-is_readonly.true ∙ c.is_readonly.ensures) (refl, looks) in
+    let works : WorksOn g.R.Source g.S.Sink asked (ChecksNamed g.A.Asker ask None) inner c.args.session.now.lacking.now ask c.in_ok-chunk.chunk all all old new call.result =
+    subst (λ (b : Bool). WorksBy g.R.Source g.S.Sink asked (ChecksNamed g.A.Asker ask None) inner c.args.session.now.lacking.now ask c.in_ok-chunk.chunk b all all old new call.result) (sym c.if-is_readonly.true ∙ c.is_readonly.ensures) (refl, looks) in
     let kept : is_readonly ask ≡ true → KeepsImages i c.args.images.now c.put_back.new.images =
     λ readonly is name. (
       restored (i.device_at c.args.images.now) (i.device_at c.take_images.new.images) (i.device_at c.put_back.new.images) _ _ devices (c.in_ok-devices.ensures.gives.taken is) (c.put_back.ensures.back (c.take_images.ensures.known ∙ is)) name,
@@ -140,13 +141,13 @@ returns-then-is_readonly-clause-gives g c =
     ) in
     opens_so i g.I.Dev.Device g.R.Source g.S.Sink g.A.Asker c.args.session.now.lacking.now (option_map (λ s. s.now) c.args.bitmap) ask (texts c.args.names.now) c.args.images.now c.put_back.new.images old new call.result
     c.in_ok-chunk.chunk (sym c.in_ok-chunk.was ∙ c.chunk_in_memory.ensures) inner named words words_are c.access.result c.access.ensures kept
-    (used i g.I.Dev.Device (WorksOn g.R.Source g.S.Sink asked inner c.args.session.now.lacking.now ask c.in_ok-chunk.chunk) c.access.result words c.args.images.now c.take_images.new.images c.put_back.new.images devices devices old new call.result
+    (used i g.I.Dev.Device (WorksOn g.R.Source g.S.Sink asked (ChecksNamed g.A.Asker ask None) inner c.args.session.now.lacking.now ask c.in_ok-chunk.chunk) c.access.result words c.args.images.now c.take_images.new.images c.put_back.new.images devices devices old new call.result
     c.in_ok-devices.ensures.gives c.take_images.ensures.known refl c.put_back.ensures.back works)
 
 pub returns-clause-gives : goal.returns-clause-gives
 returns-clause-gives g c =
     let i = g.I.Images in
-    let call = c.open_devices-devices in
+    let call = c.change_devices-devices in
     let ask = array_ask c.args.command in
     let inner = texts c.as_slice-names.result.now in
     let asked = question g.A.Asker ask inner in
@@ -158,10 +159,10 @@ returns-clause-gives g c =
     let before = disks g.I.Dev.Device c.in_ok-devices.devices.items in
     let after = disks g.I.Dev.Device call.result.0.items in
     let changes : is_readonly ask ≡ false = sym c.is_readonly.ensures ∙ c.if-is_readonly.false in
-    let works : WorksOn g.R.Source g.S.Sink asked inner c.args.session.now.lacking.now ask c.in_ok-chunk.chunk before after old new call.result.1 =
-    subst (λ (b : Bool). WorksBy g.R.Source g.S.Sink asked inner c.args.session.now.lacking.now ask c.in_ok-chunk.chunk b before after old new call.result.1) (sym changes) call.ensures.gives in
+    let works : WorksOn g.R.Source g.S.Sink asked (ChecksNamed g.A.Asker ask None) inner c.args.session.now.lacking.now ask c.in_ok-chunk.chunk before after old new call.result.1 =
+    subst (λ (b : Bool). WorksBy g.R.Source g.S.Sink asked (ChecksNamed g.A.Asker ask None) inner c.args.session.now.lacking.now ask c.in_ok-chunk.chunk b before after old new call.result.1) (sym changes) call.ensures.gives in
     let kept : is_readonly ask ≡ true → KeepsImages i c.args.images.now c.put_back-2.new.images = λ readonly. absurd (true≢false (sym readonly ∙ changes)) in
     opens_so i g.I.Dev.Device g.R.Source g.S.Sink g.A.Asker c.args.session.now.lacking.now (option_map (λ s. s.now) c.args.bitmap) ask (texts c.args.names.now) c.args.images.now c.put_back-2.new.images old new call.result.1
     c.in_ok-chunk.chunk (sym c.in_ok-chunk.was ∙ c.chunk_in_memory.ensures) inner named words words_are c.access.result c.access.ensures kept
-    (used i g.I.Dev.Device (WorksOn g.R.Source g.S.Sink asked inner c.args.session.now.lacking.now ask c.in_ok-chunk.chunk) c.access.result words c.args.images.now c.take_images.new.images c.put_back-2.new.images c.in_ok-devices.devices.items call.result.0.items old new call.result.1
+    (used i g.I.Dev.Device (WorksOn g.R.Source g.S.Sink asked (ChecksNamed g.A.Asker ask None) inner c.args.session.now.lacking.now ask c.in_ok-chunk.chunk) c.access.result words c.args.images.now c.take_images.new.images c.put_back-2.new.images c.in_ok-devices.devices.items call.result.0.items old new call.result.1
     c.in_ok-devices.ensures.gives c.take_images.ensures.known call.ensures.as_many c.put_back-2.ensures.back works)

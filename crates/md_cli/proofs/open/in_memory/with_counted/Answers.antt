@@ -1,6 +1,6 @@
 use Rattle.std.proofs.Common.{◌<◌, arith, length, refl}
 use Rattle.std.proofs.lemmas.Result.{err_from_is_err_and}
-use Rattle.md_commands.specs.declared.data_of_fault.DataOfFault.TheVariants as data_of
+use Rattle.md_refusals.specs.declared.data_of_fault.DataOfFault.TheVariants as data_of
 use Rattle.md_cli.proofs.StoodIn.{refused, refused_beside, stood_in}
 use Rattle.md_cli.proofs.open.in_memory.with_counted.Goals as goal
 

@@ -1,10 +1,10 @@
 use Rattle.std.proofs.Common.{◌∙◌, ◌+◌, [], ◌∷◌, ◌++◌, List, sym, ap, subst, arith}
 use Rattle.std.proofs.lemmas.List.Elements.{All-append, All-cons, All-nil}
 use Rattle.std.proofs.lemmas.Result.{err_from_is_err_and}
-use Rattle.md_collect.specs.declared.workers.gate.Gate.{Ghosts}
+use Rattle.md_streams.specs.declared.gate.Gate.{Ghosts}
 use Rattle.md_assembly.proofs.Indices.{got_within}
 use Rattle.md_array.proofs.General.Answered.{ok_gives}
-use Rattle.md_plan.specs.declared.planner.Planned.{Planned}
+use Rattle.md_cert.specs.declared.planned.Planned.{Planned}
 use Rattle.md_copy.specs.Passes.Passing.{PassesAll}
 use Rattle.md_copy.proofs.Passing.PassesGo.{GoesSoFar, begins_so, ends_before, fails_one, goes_on, lacks_room, leaves_now, leaves_one, listing_fails, listing_leaves, listing_sound, marks_mid, mid_ready, mid_within, passes_all, rising, served_mid, table_stops}
 use Rattle.md_copy.specs.Told.{IsToldOfPlans, IsToldOfSlots}

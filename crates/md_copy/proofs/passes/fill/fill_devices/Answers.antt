@@ -23,15 +23,15 @@ copy_beside-requires-clause-planned g c κs bounds =
     let v = c.args.mirror.now in
     let at = got_within v.array.members c.args.target c.requires.within in
     let olds = c.lend-devices.result.now.items in
-    subst (λ (x : Chunks). ArePlanned x c.args.plan.now.slots) (sym c.chunks-chunks.ensures)
+    subst (λ (x : Chunks). ArePlanned x c.args.plan.now.slots) (sym c.chunks.ensures)
     (are_planned g.D.Device v c.requires.sound c.args.target c.requires.within at.0 at.1 (c.requires.target at.0 at.1) c.args.plan.now (c.requires.planned at.0 at.1) olds olds (sym c.lend-devices.ensures.devices) refl)
 
 pub copy_beside-requires-clause-sources : goal.copy_beside-requires-clause-sources
 copy_beside-requires-clause-sources g c κs bounds =
     let slots = c.args.plan.now.slots in
     let sources = c.args.sources.now in
-    may_read_of g.D.Device c.chunks-chunks.result slots sources c.lend-devices.result.now.items c.args.target
-    (subst (λ (x : Chunks). MayRead of_disks x slots sources (remove (seen g.D.Device c.lend-devices.result.now.items) c.args.target)) (sym c.chunks-chunks.ensures)
+    may_read_of g.D.Device c.chunks.result slots sources c.lend-devices.result.now.items c.args.target
+    (subst (λ (x : Chunks). MayRead of_disks x slots sources (remove (seen g.D.Device c.lend-devices.result.now.items) c.args.target)) (sym c.chunks.ensures)
     (subst (λ (xs : List Disk). MayRead of_disks c.args.mirror.now.array.chunks slots sources (remove xs c.args.target)) (sym c.lend-devices.ensures.devices) c.requires.sources.may_read))
 
 pub copy_beside-requires-clause-room : goal.copy_beside-requires-clause-room
@@ -44,7 +44,7 @@ copy_beside-requires-clause-room g c κs bounds d =
     let own = field_of (λ (m : MemberView). m.superblock) _ at.0 _ at.1 c.own.ensures in
     let there = ap (λ (xs : List Disk). slice_get xs c.args.target) v_is ∙ mapped_at (disk_of g.D.Device) olds c.args.target (get_or olds c.args.target d) (slice_get-get_or olds c.args.target d low) in
     let room = has_room v c.requires.sound c.args.target at.0 (disk_of g.D.Device (get_or olds c.args.target d)) at.1 there in
-    subst (λ (x : Chunks). HasRoom (g.D.Device.content (get_or olds c.args.target d)) c.own.result.now.data_offset x) (sym c.chunks-chunks.ensures)
+    subst (λ (x : Chunks). HasRoom (g.D.Device.content (get_or olds c.args.target d)) c.own.result.now.data_offset x) (sym c.chunks.ensures)
     (subst (λ (b : Superblock). HasRoom (g.D.Device.content (get_or olds c.args.target d)) b.data_offset v.array.chunks) own room)
 
 pub returns-clause-gives : goal.returns-clause-gives
@@ -59,7 +59,7 @@ returns-clause-gives g c m at =
     let after = c.copy_beside.new.copied in
     let own = field_of (λ (m : MemberView). m.superblock) _ m _ at c.own.ensures in
     let keeps = λ (d : g.row.D.Denot). subst (λ (b : Superblock). KeepsBeside g.D.Device (copy_of slots v.array.chunks b.data_offset) (slice_index_or olds target d) (slice_index_or news target d)) (sym own)
-    (subst (λ (x : Chunks). KeepsBeside g.D.Device (copy_of slots x c.own.result.now.data_offset) (slice_index_or olds target d) (slice_index_or news target d)) c.chunks-chunks.ensures (c.copy_beside.ensures.target d)) in
+    (subst (λ (x : Chunks). KeepsBeside g.D.Device (copy_of slots x c.own.result.now.data_offset) (slice_index_or olds target d) (slice_index_or news target d)) c.chunks.ensures (c.copy_beside.ensures.target d)) in
     passed g.D.Device v c.requires.sound target c.requires.within m at (c.requires.target m at) c.args.plan.now (c.requires.planned m at) olds news (sym c.lend-devices.ensures.devices) c.copy_beside.ensures.as_many
     c.copy_beside.ensures.others keeps (record v { disks = seen g.D.Device news }) refl refl
     sources c.requires.sources before after c.copy_beside.result
@@ -68,7 +68,7 @@ returns-clause-gives g c m at =
     (BreaksOff g.D.Device (pass_state (remove olds target) (slice_index_or olds target d) before) (pass_state (remove news target) (slice_index_or news target d) after))) (sym own)
     (subst (λ (x : Chunks). MatchResult c.copy_beside.result
     (EndsPass g.D.Device (copy_of slots x c.own.result.now.data_offset) sources (pass_state (remove olds target) (slice_index_or olds target d) before) (pass_state (remove news target) (slice_index_or news target d) after))
-    (BreaksOff g.D.Device (pass_state (remove olds target) (slice_index_or olds target d) before) (pass_state (remove news target) (slice_index_or news target d) after))) c.chunks-chunks.ensures
+    (BreaksOff g.D.Device (pass_state (remove olds target) (slice_index_or olds target d) before) (pass_state (remove news target) (slice_index_or news target d) after))) c.chunks.ensures
     (c.copy_beside.ensures.gives d)))
 
 -- each device is back in its place
@@ -82,7 +82,7 @@ returns-clause-sound g c =
     let at = got_within v.array.members target c.requires.within in
     let own = field_of (λ (m : MemberView). m.superblock) _ at.0 _ at.1 c.own.ensures in
     let keeps = λ (d : g.row.D.Denot). subst (λ (b : Superblock). KeepsBeside g.D.Device (copy_of slots v.array.chunks b.data_offset) (slice_index_or olds target d) (slice_index_or news target d)) (sym own)
-    (subst (λ (x : Chunks). KeepsBeside g.D.Device (copy_of slots x c.own.result.now.data_offset) (slice_index_or olds target d) (slice_index_or news target d)) c.chunks-chunks.ensures (c.copy_beside.ensures.target d)) in
+    (subst (λ (x : Chunks). KeepsBeside g.D.Device (copy_of slots x c.own.result.now.data_offset) (slice_index_or olds target d) (slice_index_or news target d)) c.chunks.ensures (c.copy_beside.ensures.target d)) in
     let after : MirrorView = record v { disks = seen g.D.Device news } in
     c.lend-devices.ensures.sound after
     (back g.D.Device v c.requires.sound target c.requires.within at.0 at.1 (c.requires.target at.0 at.1) c.args.plan.now (c.requires.planned at.0 at.1) olds news (sym c.lend-devices.ensures.devices) c.copy_beside.ensures.as_many

@@ -49,7 +49,7 @@ returns-clause-gives g c d =
     let rest = c.copy_pass-result.new.devices.items in
     let there = c.remove-device.ensures.value ∙ get_or_default olds target c.remove-device.result d c.requires.within in
     let back = sym (ap (λ xs. slice_index_or xs target d) (items_are g c) ∙ get_or-insert_at rest target c.copy_pass-result.new.target d (room_for g c)) in
-    between g.D.Device (copy_of c.args.plan.now.slots c.args.chunks c.args.offset) c.args.sources.now
+    between g.D.Device (copy_of c.args.pass.now.plan.now.slots c.args.pass.now.chunks c.args.pass.now.offset) c.args.pass.now.sources.now
     (pass_state c.remove-device.new.self.items c.remove-device.result c.args.copied.now)
     (pass_state (remove olds target) (slice_index_or olds target d) c.args.copied.now)
     (pass_state rest c.copy_pass-result.new.target c.copy_pass-result.new.copied)

@@ -8,7 +8,7 @@ use Rattle.md_copy.proofs.passes.stretches.copy_stretches.Goals as goal
 pub loop-from-init : goal.loop-from-init
 loop-from-init g c = record {
   goes = begins_through c.args.target c.args.plan.now.slots c.args.copied.now c.args.mirror.now c.requires.within c.requires.ready c.requires.held c.requires.left;
-  told = none_before (λ (s : Slot). IsTold g.G.Gate c.args.gate.now s.source s.chunk) c.args.plan.now.slots;
+  told = none_before (λ (s : Slot). IsTold g.G.Gate c.args.workers.now.gate.now s.source s.chunk) c.args.plan.now.slots;
   low = omega arith;
   small = omega arith;
 }
@@ -29,8 +29,8 @@ returns-then-to-plan-clause-gives g c =
 pub returns-then-to-plan-clause-told : goal.returns-then-to-plan-clause-told
 returns-then-to-plan-clause-told g c =
     let slots = c.args.plan.now.slots in
-    all_before (λ (s : Slot). IsTold g.G.Gate c.args.gate.now s.source s.chunk) slots c.args.plan.now.rounds c.min-to.result c.requires.in_time c.if-to-plan.true
-    (more_before (λ (s : Slot). IsTold g.G.Gate c.args.gate.now s.source s.chunk) slots c.loop-from.from c.min-to.result c.loop-from.invariant.told c.in_ok-copy_stretch.ensures.told)
+    all_before (λ (s : Slot). IsTold g.G.Gate c.args.workers.now.gate.now s.source s.chunk) slots c.args.plan.now.rounds c.min-to.result c.requires.in_time c.if-to-plan.true
+    (more_before (λ (s : Slot). IsTold g.G.Gate c.args.workers.now.gate.now s.source s.chunk) slots c.loop-from.from c.min-to.result c.loop-from.invariant.told c.in_ok-copy_stretch.ensures.told)
 
 pub loop-from-preserved : goal.loop-from-preserved
 loop-from-preserved g c =
@@ -43,7 +43,7 @@ loop-from-preserved g c =
     record {
       goes = goes_through c.args.target slots c.args.copied.now c.args.mirror.now c.loop-from.from c.loop-from.copied c.loop-from.mirror c.loop-from.invariant.goes c.min-to.result le c.copy_stretch.new.copied c.copy_stretch.new.mirror
           c.in_ok-copy_stretch.ensures.gives c.in_ok-copy_stretch.ensures.ready c.in_ok-copy_stretch.ensures.held c.in_ok-copy_stretch.ensures.left;
-      told = more_before (λ (s : Slot). IsTold g.G.Gate c.args.gate.now s.source s.chunk) slots c.loop-from.from c.min-to.result c.loop-from.invariant.told c.in_ok-copy_stretch.ensures.told;
+      told = more_before (λ (s : Slot). IsTold g.G.Gate c.args.workers.now.gate.now s.source s.chunk) slots c.loop-from.from c.min-to.result c.loop-from.invariant.told c.in_ok-copy_stretch.ensures.told;
       low = omega (arith, least);
       small = omega (arith, least, sum);
     }

@@ -10,7 +10,7 @@ decreases-loop-from g l = l.plan.rounds - l.from
 abbrev pub invariant-loop-from : goal.invariant-loop-from
 invariant-loop-from g l = record {
   goes : GoesThrough l.target l.plan.slots l.fn.copied l.fn.mirror l.from l.copied l.mirror;
-  told : IsToldOfSlots g.G.Gate l.gate (slots_before l.from l.plan.slots);
+  told : IsToldOfSlots g.G.Gate l.workers.gate.now (slots_before l.from l.plan.slots);
   low : l.from ≤ l.plan.rounds;
   small : l.from < 2 ^ 32;
 }

@@ -99,8 +99,8 @@ returns-in-Ok-salvage_readied-clause-gives g c =
       salvages = c.in-Ok-salvage_readied.ensures.gives b.now b.there;
     }
 
-pub leave_salvaged-requires-clause-within : goal.leave_salvaged-requires-clause-within
-leave_salvaged-requires-clause-within g c =
+pub leave-requires-clause-within : goal.leave-requires-clause-within
+leave-requires-clause-within g c =
     let v = c.args.mirror.now in
     let it = got_within v.array.members c.args.target c.requires.within in
     let many = c.in-Ok.ensures.chunks ∙ c.count.ensures.count ∙ ap (λ (q : Chunks). div_ceil q.size q.sectors) c.chunks.ensures ∙ sym c.requires.sound.chunks.count in
@@ -114,4 +114,4 @@ returns-clause-gives g c =
     let it = got_within v.array.members c.args.target c.requires.within in
     let many = c.in-Ok.ensures.chunks ∙ c.count.ensures.count ∙ ap (λ (q : Chunks). div_ceil q.size q.sectors) c.chunks.ensures ∙ sym c.requires.sound.chunks.count in
     let b = begins c.args.target v c.lower_target.new.mirror c.make_ready.new.mirror c.requires.sound it.0 it.1 (c.in_ok-check_salvage.ensures it.0 it.1).rebuild c.in-Ok.copied many c.in-Ok.ensures.bits c.lower_target.ensures.gives c.in_ok-make_ready.ensures.gives in
-    inr (inr (inr (c.make_ready.new.mirror, c.in-Ok.copied, b, (c.salvage_readied.new.copied, c.salvage_readied.new.mirror, c.in-Err-salvage_readied.ensures.gives b.now b.there, c.leave_salvaged.ensures.leaves))))
+    inr (inr (inr (c.make_ready.new.mirror, c.in-Ok.copied, b, (c.salvage_readied.new.copied, c.salvage_readied.new.mirror, c.in-Err-salvage_readied.ensures.gives b.now b.there, c.leave.ensures.leaves))))

@@ -1,5 +1,5 @@
 use Rattle.std.proofs.Common.{ℕ, List, subst}
-use Rattle.md_examine.specs.Sink.{PutsOrFails}
+use Rattle.md_streams.specs.Sink.{PutsOrFails}
 use Rattle.md_examine.proofs.Texts.{name_is}
 use Rattle.md_examine_commands.specs.ScanText.{named_array_line}
 use Rattle.md_examine_commands.proofs.scan.array_entry.put_array_line.Goals as goal

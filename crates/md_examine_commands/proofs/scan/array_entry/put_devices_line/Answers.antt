@@ -1,4 +1,4 @@
-use Rattle.md_examine.proofs.Puts.{puts_then}
+use Rattle.md_streams.proofs.Puts.{puts_then}
 use Rattle.md_examine_commands.specs.ScanText.{devices_line}
 use Rattle.md_examine_commands.proofs.scan.array_entry.put_devices_line.Goals as goal
 

@@ -1,6 +1,6 @@
 use Rattle.std.proofs.Common.{take}
 use Rattle.std.specs.List.{flat_map}
-use Rattle.md_examine.specs.Sink.{Puts}
+use Rattle.md_streams.specs.Sink.{Puts}
 use Rattle.md_examine_commands.specs.ScanText.{later_device}
 use Rattle.md_examine_commands.proofs.scan.array_entry.put_later_devices.Given as goal
 

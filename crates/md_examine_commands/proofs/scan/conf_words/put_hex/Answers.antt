@@ -1,8 +1,8 @@
 use Rattle.std.proofs.Common.{ℕ, List, ap, subst, arith, rules}
 use Rattle.std.specs.List.{flat_map}
 use Rattle.std.proofs.lemmas.List.{take_all}
-use Rattle.md_examine.specs.Sink.{Puts}
-use Rattle.md_examine.proofs.Puts.{puts_then, puts_nothing, flat_map_at}
+use Rattle.md_streams.specs.Sink.{Puts}
+use Rattle.md_streams.proofs.Puts.{puts_then, puts_nothing, flat_map_at}
 use Rattle.md_examine_commands.specs.ScanText.{hex_byte}
 use Rattle.md_examine_commands.proofs.scan.conf_words.put_hex.Goals as goal
 

@@ -1,4 +1,4 @@
-use Rattle.md_examine.proofs.Puts.{puts_then}
+use Rattle.md_streams.proofs.Puts.{puts_then}
 use Rattle.md_examine_commands.specs.ScanText.{id_text}
 use Rattle.md_examine_commands.proofs.scan.conf_words.put_id_bytes.Goals as goal
 

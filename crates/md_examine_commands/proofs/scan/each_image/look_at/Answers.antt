@@ -1,5 +1,5 @@
 use Rattle.std.proofs.Common.{◌≡◌, ◌∙◌, Err, inl, inr, refl, rules, sym}
-use Rattle.md_commands.proofs.Wrapped.{own_ok}
+use Rattle.md_refusals.proofs.Wrapped.{own_ok}
 use Rattle.md_examine_commands.proofs.ImagesLooked.{refuses_to_look}
 use Rattle.md_examine_commands.proofs.scan.each_image.look_at.Goals as goal
 

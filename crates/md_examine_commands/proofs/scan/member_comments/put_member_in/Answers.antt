@@ -1,4 +1,4 @@
-use Rattle.md_examine.proofs.Puts.{puts_then}
+use Rattle.md_streams.proofs.Puts.{puts_then}
 use Rattle.md_examine_commands.specs.ScanText.{member_comment_in}
 use Rattle.md_examine_commands.proofs.scan.member_comments.put_member_in.Goals as goal
 

@@ -3,8 +3,8 @@ use Rattle.std.specs.List.{flat_map}
 use Rattle.std.proofs.lemmas.List.{take_all}
 use Rattle.std.proofs.lemmas.Option.{get_or_from_slice_get, slice_get_read}
 use Rattle.md_examine_commands.specs.declared.scan.seen.Seen.{Seen}
-use Rattle.md_examine.specs.Sink.{Puts}
-use Rattle.md_examine.proofs.Puts.{puts_then, puts_nothing, flat_map_at}
+use Rattle.md_streams.specs.Sink.{Puts}
+use Rattle.md_streams.proofs.Puts.{puts_then, puts_nothing, flat_map_at}
 use Rattle.md_examine_commands.specs.ScanText.{other_comment}
 use Rattle.md_examine_commands.proofs.scan.member_comments.put_others.Goals as goal
 

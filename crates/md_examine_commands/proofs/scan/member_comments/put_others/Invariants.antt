@@ -1,6 +1,6 @@
 use Rattle.std.proofs.Common.{take}
 use Rattle.std.specs.List.{flat_map}
-use Rattle.md_examine.specs.Sink.{Puts}
+use Rattle.md_streams.specs.Sink.{Puts}
 use Rattle.md_examine_commands.specs.ScanText.{other_comment}
 use Rattle.md_examine_commands.proofs.scan.member_comments.put_others.Given as goal
 

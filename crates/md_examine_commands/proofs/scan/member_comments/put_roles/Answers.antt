@@ -1,6 +1,7 @@
 use Rattle.std.proofs.Common.{ℕ, List, subst}
-use Rattle.md_examine.specs.Sink.{Puts}
-use Rattle.md_examine.proofs.Puts.{flat_map_next, puts_nothing, puts_then}
+use Rattle.md_streams.specs.Sink.{Puts}
+use Rattle.md_examine.proofs.Texts.{flat_map_next}
+use Rattle.md_streams.proofs.Puts.{puts_nothing, puts_then}
 use Rattle.md_examine_commands.specs.ScanText.{role_comments}
 use Rattle.md_examine_commands.proofs.scan.member_comments.put_roles.Goals as goal
 

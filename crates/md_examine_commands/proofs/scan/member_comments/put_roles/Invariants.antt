@@ -1,5 +1,5 @@
 use Rattle.std.specs.List.{flat_map, range_with_len}
-use Rattle.md_examine.specs.Sink.{Puts}
+use Rattle.md_streams.specs.Sink.{Puts}
 use Rattle.md_examine_commands.specs.ScanText.{role_comments}
 use Rattle.md_examine_commands.proofs.scan.member_comments.put_roles.Given as goal
 

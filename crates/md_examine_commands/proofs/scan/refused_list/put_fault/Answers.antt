@@ -1,4 +1,4 @@
-use Rattle.md_examine.proofs.Puts.{puts_then}
+use Rattle.md_streams.proofs.Puts.{puts_then}
 use Rattle.md_report.specs.AsJson.Objects.{next_text}
 use Rattle.md_examine_commands.proofs.scan.refused_list.put_fault.Goals as goal
 

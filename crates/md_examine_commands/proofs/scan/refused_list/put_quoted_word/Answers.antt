@@ -1,6 +1,6 @@
 use Rattle.std.proofs.Common.{ℕ, List, subst, sym}
-use Rattle.md_examine.specs.Sink.{Puts}
-use Rattle.md_examine.proofs.Puts.{puts_then}
+use Rattle.md_streams.specs.Sink.{Puts}
+use Rattle.md_streams.proofs.Puts.{puts_then}
 use Rattle.md_examine_commands.proofs.PlainWords.{quoted_word}
 use Rattle.md_examine_commands.proofs.scan.refused_list.put_quoted_word.Goals as goal
 

@@ -1,6 +1,6 @@
 use Rattle.std.proofs.Common.{◌≡◌, false, length, take}
 use Rattle.std.specs.List.{filter}
-use Rattle.md_examine.specs.Sink.{Puts}
+use Rattle.md_streams.specs.Sink.{Puts}
 use Rattle.md_report.specs.AsJson.Objects.{elements_text}
 use Rattle.md_examine_commands.specs.Unshown.{is_told_why, unshown_object}
 use Rattle.md_report.proofs.JsonLemmas.Texts.{is_later}

@@ -1,6 +1,6 @@
 use Rattle.std.proofs.Common.{codes}
 use Rattle.serde_json.specs.Data.{string}
-use Rattle.md_examine.proofs.Puts.{puts_then}
+use Rattle.md_streams.proofs.Puts.{puts_then}
 use Rattle.md_report.proofs.JsonLemmas.Texts.{puts_object}
 use Rattle.md_examine_commands.specs.Unshown.{unshown_fields}
 use Rattle.md_examine_commands.proofs.scan.refused_list.unshown.Goals as goal

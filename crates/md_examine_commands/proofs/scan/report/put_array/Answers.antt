@@ -1,7 +1,7 @@
 use Rattle.std.proofs.Common.{ℕ, List, subst}
 use Rattle.md_super.specs.declared.superblock.Superblock.{Superblock}
-use Rattle.md_examine.specs.Sink.{Puts}
-use Rattle.md_examine.proofs.Puts.{puts_then}
+use Rattle.md_streams.specs.Sink.{Puts}
+use Rattle.md_streams.proofs.Puts.{puts_then}
 use Rattle.md_examine_commands.specs.ScanText.{array_text, decided}
 use Rattle.md_examine_commands.proofs.scan.report.put_array.Goals as goal
 

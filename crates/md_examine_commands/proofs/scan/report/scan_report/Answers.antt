@@ -1,7 +1,8 @@
 use Rattle.std.proofs.Common.{◌≡◌, ℕ, List, arith, length, subst}
 use Rattle.std.specs.List.{flat_map, range_with_len}
-use Rattle.md_examine.specs.Sink.{Puts}
-use Rattle.md_examine.proofs.Puts.{flat_map_next, puts_nothing, puts_then}
+use Rattle.md_streams.specs.Sink.{Puts}
+use Rattle.md_examine.proofs.Texts.{flat_map_next}
+use Rattle.md_streams.proofs.Puts.{puts_nothing, puts_then}
 use Rattle.md_examine_commands.specs.ScanText.{array_at, scan_text}
 use Rattle.md_examine_commands.proofs.scan.report.scan_report.Goals as goal
 

@@ -1,7 +1,7 @@
 use Rattle.std.proofs.Common.{List, Option, subst, sym}
 use Rattle.std.specs.List.{fold}
 use Rattle.serde_json.specs.Written.{compact_text}
-use Rattle.md_examine.specs.Sink.{PutsOrFails}
+use Rattle.md_streams.specs.Sink.{PutsOrFails}
 use Rattle.md_examine_commands.specs.declared.scan.seen.Seen.{Seen}
 use Rattle.md_examine_commands.specs.ScanObject.{array_value, scan_array_object}
 use Rattle.md_examine_commands.specs.ScanText.{decider, fresher}

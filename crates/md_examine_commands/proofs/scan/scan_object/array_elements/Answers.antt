@@ -1,8 +1,8 @@
 use Rattle.std.proofs.Common.{◌≡◌, ◌∙◌, ℕ, false, List, ap, refl, sym, length, subst, arith}
 use Rattle.std.specs.List.{filter, range_with_len}
 use Rattle.md_bitmap.proofs.Numbers.{range_more}
-use Rattle.md_examine.specs.Sink.{Puts}
-use Rattle.md_examine.proofs.Puts.{puts_then, puts_nothing}
+use Rattle.md_streams.specs.Sink.{Puts}
+use Rattle.md_streams.proofs.Puts.{puts_then, puts_nothing}
 use Rattle.md_report.specs.AsJson.Objects.{elements_text}
 use Rattle.md_examine_commands.specs.ScanObject.{array_at_value, is_first_at}
 use Rattle.md_report.proofs.JsonLemmas.Chosen.{chosen_more, later_chosen}

@@ -1,6 +1,6 @@
 use Rattle.std.proofs.Common.{◌≡◌, false, length}
 use Rattle.std.specs.List.{filter, range_with_len}
-use Rattle.md_examine.specs.Sink.{Puts}
+use Rattle.md_streams.specs.Sink.{Puts}
 use Rattle.md_report.specs.AsJson.Objects.{elements_text}
 use Rattle.md_examine_commands.specs.ScanObject.{array_at_value, is_first_at}
 use Rattle.md_report.proofs.JsonLemmas.Texts.{is_later}

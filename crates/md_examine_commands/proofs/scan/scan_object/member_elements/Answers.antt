@@ -3,8 +3,8 @@ use Rattle.std.specs.List.{filter}
 use Rattle.std.proofs.lemmas.List.{take_all, take_more}
 use Rattle.std.proofs.lemmas.Option.{get_or_from_slice_get, slice_get_read}
 use Rattle.md_examine_commands.specs.declared.scan.seen.Seen.{Seen}
-use Rattle.md_examine.specs.Sink.{Puts}
-use Rattle.md_examine.proofs.Puts.{puts_then, puts_nothing}
+use Rattle.md_streams.specs.Sink.{Puts}
+use Rattle.md_streams.proofs.Puts.{puts_then, puts_nothing}
 use Rattle.md_report.specs.AsJson.Objects.{elements_text}
 use Rattle.md_examine_commands.specs.ScanObject.{scan_member_object}
 use Rattle.md_examine_commands.specs.ScanText.{is_same_array}

@@ -1,7 +1,7 @@
 use Rattle.std.proofs.Common.{codes}
 use Rattle.md_report.specs.AsJson.Objects.{whole}
 use Rattle.md_examine_commands.specs.ScanObject.{scan_member_fields}
-use Rattle.md_examine.proofs.Puts.{puts_then}
+use Rattle.md_streams.proofs.Puts.{puts_then}
 use Rattle.md_report.proofs.JsonLemmas.Texts.{puts_object}
 use Rattle.md_examine_commands.proofs.scan.scan_object.member_in.Goals as goal
 

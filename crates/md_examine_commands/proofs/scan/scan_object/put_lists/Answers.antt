@@ -1,5 +1,5 @@
 use Rattle.md_report.specs.AsJson.Objects.{later_text}
-use Rattle.md_examine.proofs.Puts.{puts_then}
+use Rattle.md_streams.proofs.Puts.{puts_then}
 use Rattle.md_examine_commands.specs.ScanObject.{scan_fields}
 use Rattle.md_report.proofs.JsonLemmas.Texts.{puts_last}
 use Rattle.md_examine_commands.proofs.scan.scan_object.put_lists.Goals as goal

@@ -1,6 +1,6 @@
 use Rattle.std.proofs.Common.{[], ◌∷◌, codes}
 use Rattle.md_examine_commands.specs.ScanObject.{scan_fields}
-use Rattle.md_examine.proofs.Puts.{puts_then}
+use Rattle.md_streams.proofs.Puts.{puts_then}
 use Rattle.md_report.proofs.JsonLemmas.Texts.{puts_report}
 use Rattle.md_examine_commands.proofs.scan.scan_object.scan_json.Goals as goal
 

@@ -1,6 +1,6 @@
 use Rattle.std.proofs.Common.{◌+◌, ◌≤◌, ℕ, List, length, take, sym, subst, arith}
-use Rattle.md_examine.specs.Sink.{Puts}
-use Rattle.md_examine.proofs.Puts.{puts_then}
+use Rattle.md_streams.specs.Sink.{Puts}
+use Rattle.md_streams.proofs.Puts.{puts_then}
 use Rattle.md_files.proofs.SparseLemmas.Blocks.{with_block}
 use Rattle.md_files.proofs.sparse.sparse.put_blocks.Goals as goal
 use Rattle.md_files.proofs.sparse.sparse.put_blocks.Goals.{then-is_zero+in_ok-leave_out, else-is_zero}

@@ -1,5 +1,5 @@
 use Rattle.std.proofs.Common.{◌-◌, ◌≤◌, length, take}
-use Rattle.md_examine.specs.Sink.{Puts}
+use Rattle.md_streams.specs.Sink.{Puts}
 use Rattle.md_files.proofs.sparse.sparse.put_blocks.Given as goal
 
 abbrev pub decreases-loop-at : goal.decreases-loop-at

@@ -2,8 +2,8 @@ use Rattle.std.proofs.Common.{◌≡◌, ◌∙◌, ℕ, List, ap, sym, subst}
 use Rattle.std.specs.List.{flat_map}
 use Rattle.std.proofs.lemmas.Iterator.{YieldsList-from_chars}
 use Rattle.std.proofs.lemmas.Iterator.Consumers.{YieldsList-end}
-use Rattle.md_examine.specs.Sink.{Puts, PutsOrFails}
-use Rattle.md_examine.proofs.Puts.{puts_nothing, puts_then}
+use Rattle.md_streams.specs.Sink.{Puts, PutsOrFails}
+use Rattle.md_streams.proofs.Puts.{puts_nothing, puts_then}
 use Rattle.md_files.specs.Streams.CodedText.{coded, coded_char}
 use Rattle.md_files.proofs.CodedTexts.{coded_more, coded_plain, same_items}
 use Rattle.md_files.proofs.streams.coded_text.put_coded.Goals as goal

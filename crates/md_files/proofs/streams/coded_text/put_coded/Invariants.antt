@@ -1,5 +1,5 @@
 use Rattle.std.specs.List.{flat_map}
-use Rattle.md_examine.specs.Sink.{Puts}
+use Rattle.md_streams.specs.Sink.{Puts}
 use Rattle.md_files.specs.Streams.CodedText.{coded_char}
 use Rattle.md_files.proofs.streams.coded_text.put_coded.Given as goal
 

@@ -1,5 +1,5 @@
 use Rattle.md_nbd.specs.Server.Refusals.{refused_request_text}
-use Rattle.md_examine.proofs.Puts.{puts_then}
+use Rattle.md_streams.proofs.Puts.{puts_then}
 use Rattle.md_nbd.proofs.server.refusal_line.refused_line.Goals as goal
 
 pub returns : goal.returns

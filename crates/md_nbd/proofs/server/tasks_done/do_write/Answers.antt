@@ -11,16 +11,16 @@ use Rattle.md_nbd.proofs.server.tasks_done.do_write.Goals as goal
 pub returns-in-Ok-clause-tells : goal.returns-in-Ok-clause-tells
 returns-in-Ok-clause-tells g c =
     let reply = success_reply c.args.request.now.cookie in
-    tells_as g.S.Store g.O.Sink (g.W.ClientWatch.has_refused c.args.watch.now) (WriteTask c.args.sector (length c.args.bytes.now / 512) c.args.through) c.args.request.now c.args.bytes.now
-    (IsStoreFault (g.S.Store.why_unwritten (c.args.store.now, c.args.lent.now) (c.write.new.self, c.write.new.lent) c.args.sector c.args.bytes.now))
+    tells_as g.S.Store g.O.Sink (g.W.ClientWatch.has_refused c.args.watch.now) (WriteTask c.args.asked.now.sector (length c.args.asked.now.bytes.now / 512) c.args.asked.now.through) c.args.request.now c.args.asked.now.bytes.now
+    (IsStoreFault (g.S.Store.why_unwritten (c.args.store.now, c.args.lent.now) (c.write.new.self, c.write.new.lent) c.args.asked.now.sector c.args.asked.now.bytes.now))
     (c.args.store.now, c.args.lent.now) (c.write.new.self, c.write.new.lent) c.args.out.now c.put.new.out c.success_reply.result reply c.put.result c.success_reply.ensures
     (record { fault = None; does = inl (c.in-Ok.ensures.gives, refl); answers = ([], sym (append-nil reply)); told = tt }) c.put.ensures
 
 pub returns-in-Err-clause-tells : goal.returns-in-Err-clause-tells
 returns-in-Err-clause-tells g c =
     let reply = error_reply Io c.args.request.now.cookie in
-    tells_as g.S.Store g.O.Sink (g.W.ClientWatch.has_refused c.args.watch.now) (WriteTask c.args.sector (length c.args.bytes.now / 512) c.args.through) c.args.request.now c.args.bytes.now
-    (IsStoreFault (g.S.Store.why_unwritten (c.args.store.now, c.args.lent.now) (c.write.new.self, c.write.new.lent) c.args.sector c.args.bytes.now))
+    tells_as g.S.Store g.O.Sink (g.W.ClientWatch.has_refused c.args.watch.now) (WriteTask c.args.asked.now.sector (length c.args.asked.now.bytes.now / 512) c.args.asked.now.through) c.args.request.now c.args.asked.now.bytes.now
+    (IsStoreFault (g.S.Store.why_unwritten (c.args.store.now, c.args.lent.now) (c.write.new.self, c.write.new.lent) c.args.asked.now.sector c.args.asked.now.bytes.now))
     (c.args.store.now, c.args.lent.now) (c.write.new.self, c.write.new.lent) c.args.out.now c.refuse.new.out reply reply c.refuse.result refl
     (record {
       fault = Some (StoreSays c.in-Err.fault);

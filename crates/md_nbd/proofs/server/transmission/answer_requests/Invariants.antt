@@ -5,8 +5,8 @@ use Rattle.md_nbd.proofs.server.transmission.answer_requests.Given as goal
 
 abbrev pub invariant-loop-answered : goal.invariant-loop-answered
 invariant-loop-answered g l = record {
-  so_many : SoManyAnswered g.S.Store g.I.Source g.O.Sink l.export (g.W.ClientWatch.has_refused l.watch) l.answered (l.fn.store, l.fn.lent) (l.store, l.lent) l.fn.input l.input l.fn.out l.out;
-  size : l.export.size ≤ sector_bytes * g.S.Store.sectors (l.store, l.lent);
+  so_many : SoManyAnswered g.S.Store g.I.Source g.O.Sink l.service.export.now (g.W.ClientWatch.has_refused l.service.watch.now) l.answered (l.fn.store, l.fn.lent) (l.store, l.lent) l.fn.input l.input l.fn.out l.out;
+  size : l.service.export.now.size ≤ sector_bytes * g.S.Store.sectors (l.store, l.lent);
   sound : g.S.Store.is_sound (l.store, l.lent);
   sectors : g.S.Store.sectors (l.store, l.lent) ≡ g.S.Store.sectors (l.fn.store, l.fn.lent);
 }

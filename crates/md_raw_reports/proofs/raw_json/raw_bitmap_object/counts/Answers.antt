@@ -1,6 +1,6 @@
 use Rattle.md_report.specs.AsJson.Objects.{later_text}
 use Rattle.md_raw_reports.specs.RawJson.RawBitmap.{raw_mark_fields}
-use Rattle.md_examine.proofs.Puts.{puts_then}
+use Rattle.md_streams.proofs.Puts.{puts_then}
 use Rattle.md_report.proofs.JsonLemmas.Texts.{puts_last}
 use Rattle.md_raw_reports.proofs.raw_json.raw_bitmap_object.counts.Goals as goal
 

@@ -1,7 +1,7 @@
 use Rattle.std.proofs.Common.{[], ◌∷◌, codes}
 use Rattle.md_raw_reports.specs.RawJson.RawBitmap.{part_fields, super_fault_fields}
 use Rattle.md_raw_reports.specs.RawJson.RawSuper.{unread_fields}
-use Rattle.md_examine.proofs.Puts.{puts_then}
+use Rattle.md_streams.proofs.Puts.{puts_then}
 use Rattle.md_report.proofs.JsonLemmas.Texts.{puts_report}
 use Rattle.md_raw_reports.proofs.raw_json.raw_bitmap_object.raw_bitmap_json.Goals as goal
 

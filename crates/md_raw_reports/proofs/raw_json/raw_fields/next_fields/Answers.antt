@@ -1,7 +1,7 @@
 use Rattle.std.proofs.Common.{ℕ, List, ap, map, subst, arith, rules}
 use Rattle.std.proofs.lemmas.List.{take_all}
-use Rattle.md_examine.specs.Sink.{Puts}
-use Rattle.md_examine.proofs.Puts.{puts_then, puts_nothing}
+use Rattle.md_streams.specs.Sink.{Puts}
+use Rattle.md_streams.proofs.Puts.{puts_then, puts_nothing}
 use Rattle.md_report.specs.AsJson.Objects.{later_text}
 use Rattle.md_raw_reports.specs.RawJson.RawFields.{table_field}
 use Rattle.md_report.proofs.JsonLemmas.Chosen.{later_at}

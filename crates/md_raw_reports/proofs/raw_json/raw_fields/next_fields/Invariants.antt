@@ -1,5 +1,5 @@
 use Rattle.std.proofs.Common.{map, take}
-use Rattle.md_examine.specs.Sink.{Puts}
+use Rattle.md_streams.specs.Sink.{Puts}
 use Rattle.md_report.specs.AsJson.Objects.{later_text}
 use Rattle.md_raw_reports.specs.RawJson.RawFields.{table_field}
 use Rattle.md_raw_reports.proofs.raw_json.raw_fields.next_fields.Given as goal

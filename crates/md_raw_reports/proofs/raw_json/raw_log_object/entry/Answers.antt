@@ -1,7 +1,7 @@
 use Rattle.std.proofs.Common.{codes}
 use Rattle.md_report.specs.AsJson.Objects.{whole}
 use Rattle.md_raw_reports.specs.RawJson.RawLog.{entry_fields}
-use Rattle.md_examine.proofs.Puts.{puts_then}
+use Rattle.md_streams.proofs.Puts.{puts_then}
 use Rattle.md_report.proofs.JsonLemmas.Texts.{puts_object}
 use Rattle.md_raw_reports.proofs.raw_json.raw_log_object.entry.Goals as goal
 

@@ -1,7 +1,7 @@
 use Rattle.std.proofs.Common.{ℕ, List, codes, nat_lt, subst}
 use Rattle.serde_json.specs.Data.{string}
 use Rattle.md_format.specs.Fields.{number_at}
-use Rattle.md_examine.specs.Sink.{Puts}
+use Rattle.md_streams.specs.Sink.{Puts}
 use Rattle.md_raw_reports.specs.RawJson.RawLog.{shift_faults}
 use Rattle.md_report.proofs.JsonLemmas.Chosen.{one_where}
 use Rattle.md_report.proofs.JsonLemmas.Texts.{puts_list}

@@ -2,7 +2,7 @@ use Rattle.std.proofs.Common.{[], ◌∷◌, codes}
 use Rattle.md_raw_reports.specs.RawJson.RawBitmap.{super_fault_fields}
 use Rattle.md_raw_reports.specs.RawJson.RawLog.{area_fields, told_fields}
 use Rattle.md_raw_reports.specs.RawJson.RawSuper.{unread_fields}
-use Rattle.md_examine.proofs.Puts.{puts_then}
+use Rattle.md_streams.proofs.Puts.{puts_then}
 use Rattle.md_report.proofs.JsonLemmas.Texts.{puts_report}
 use Rattle.md_raw_reports.proofs.raw_json.raw_log_object.raw_log_json.Goals as goal
 

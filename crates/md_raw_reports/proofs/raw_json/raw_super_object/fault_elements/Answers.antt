@@ -1,8 +1,8 @@
 use Rattle.std.proofs.Common.{◌∙◌, ℕ, false, List, ap, refl, sym, length, take, subst, arith, rules}
 use Rattle.std.specs.List.{filter}
 use Rattle.std.proofs.lemmas.List.{take_all, take_more}
-use Rattle.md_examine.specs.Sink.{Puts}
-use Rattle.md_examine.proofs.Puts.{puts_then, puts_nothing}
+use Rattle.md_streams.specs.Sink.{Puts}
+use Rattle.md_streams.proofs.Puts.{puts_then, puts_nothing}
 use Rattle.md_report.specs.AsJson.Objects.{elements_text}
 use Rattle.md_raw_reports.specs.SuperFaults.{is_seen}
 use Rattle.md_raw_reports.specs.RawJson.RawSuper.{super_fault_value}

@@ -1,6 +1,6 @@
 use Rattle.std.proofs.Common.{◌≡◌, false, length, take}
 use Rattle.std.specs.List.{filter}
-use Rattle.md_examine.specs.Sink.{Puts}
+use Rattle.md_streams.specs.Sink.{Puts}
 use Rattle.md_report.specs.AsJson.Objects.{elements_text}
 use Rattle.md_raw_reports.specs.SuperFaults.{is_seen}
 use Rattle.md_raw_reports.specs.RawJson.RawSuper.{super_fault_value}

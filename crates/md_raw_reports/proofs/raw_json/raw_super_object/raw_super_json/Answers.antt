@@ -1,6 +1,6 @@
 use Rattle.std.proofs.Common.{[], ◌∷◌, codes}
 use Rattle.md_raw_reports.specs.RawJson.RawSuper.{found_fields, known_fields, unread_fields}
-use Rattle.md_examine.proofs.Puts.{puts_then}
+use Rattle.md_streams.proofs.Puts.{puts_then}
 use Rattle.md_report.proofs.JsonLemmas.Texts.{puts_report}
 use Rattle.md_raw_reports.proofs.raw_json.raw_super_object.raw_super_json.Goals as goal
 

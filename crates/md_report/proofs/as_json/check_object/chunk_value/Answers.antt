@@ -1,5 +1,5 @@
 use Rattle.std.proofs.Common.{codes}
-use Rattle.md_examine.proofs.Puts.{puts_then}
+use Rattle.md_streams.proofs.Puts.{puts_then}
 use Rattle.md_report.specs.AsJson.CheckObject.{chunk_fields, run_of_chunk}
 use Rattle.md_report.specs.AsJson.Objects.{whole}
 use Rattle.md_report.proofs.JsonLemmas.Texts.{puts_object}

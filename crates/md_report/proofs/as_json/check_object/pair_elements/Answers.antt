@@ -3,9 +3,9 @@ use Rattle.std.specs.List.{filter}
 use Rattle.std.proofs.lemmas.List.{take_all, take_more}
 use Rattle.std.proofs.lemmas.Option.{get_or_from_slice_get, slice_get_read}
 use Rattle.md_bitmap.specs.Marks.{is_set}
-use Rattle.md_check.specs.declared.found.Pair.{Pair}
-use Rattle.md_examine.specs.Sink.{Puts}
-use Rattle.md_examine.proofs.Puts.{puts_then, puts_nothing}
+use Rattle.md_collect.specs.declared.found.Pair.{Pair}
+use Rattle.md_streams.specs.Sink.{Puts}
+use Rattle.md_streams.proofs.Puts.{puts_then, puts_nothing}
 use Rattle.md_report.specs.AsJson.CheckObject.{pair_value, pairs_in}
 use Rattle.md_report.specs.AsJson.Objects.{elements_text}
 use Rattle.md_report.proofs.JsonLemmas.Chosen.{chosen_more, later_chosen}

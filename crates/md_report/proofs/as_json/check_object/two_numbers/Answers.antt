@@ -1,4 +1,4 @@
-use Rattle.md_examine.proofs.Puts.{puts_then}
+use Rattle.md_streams.proofs.Puts.{puts_then}
 use Rattle.md_report.proofs.as_json.check_object.two_numbers.Goals as goal
 
 pub returns : goal.returns

@@ -2,8 +2,8 @@ use Rattle.std.proofs.Common.{ℕ, List, ap, subst, arith, rules}
 use Rattle.std.specs.List.{flat_map}
 use Rattle.std.proofs.lemmas.List.{take_all}
 use Rattle.json.specs.Print.{escape_byte}
-use Rattle.md_examine.specs.Sink.{Puts}
-use Rattle.md_examine.proofs.Puts.{puts_then, puts_nothing, flat_map_at}
+use Rattle.md_streams.specs.Sink.{Puts}
+use Rattle.md_streams.proofs.Puts.{puts_then, puts_nothing, flat_map_at}
 use Rattle.md_report.proofs.as_json.quoting.put_escaped.Goals as goal
 
 pub loop-byte-init : goal.loop-byte-init

@@ -1,6 +1,6 @@
 use Rattle.std.proofs.Common.{codes, option_map}
 use Rattle.serde_json.specs.Data.{string}
-use Rattle.md_examine.proofs.Puts.{puts_then}
+use Rattle.md_streams.proofs.Puts.{puts_then}
 use Rattle.md_report.specs.AsJson.RefusalObject.{line_fields}
 use Rattle.md_report.proofs.JsonLemmas.Texts.{puts_object}
 use Rattle.md_report.proofs.as_json.refusal_object.refusal.Goals as goal

@@ -1,6 +1,6 @@
 use Rattle.std.proofs.Common.{ℕ, List, subst}
 use Rattle.json.specs.Print.{quoted}
-use Rattle.md_examine.specs.Sink.{PutsOrFails}
+use Rattle.md_streams.specs.Sink.{PutsOrFails}
 use Rattle.md_examine.proofs.Texts.{name_is}
 use Rattle.md_report.specs.AsJson.Objects.{next_text}
 use Rattle.md_report.proofs.as_json.values.next_name.Goals as goal

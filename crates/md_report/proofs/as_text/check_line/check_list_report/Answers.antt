@@ -1,7 +1,7 @@
 use Rattle.std.proofs.Common.{ℕ, ◌++◌, subst}
 use Rattle.std.specs.List.{flat_map, range_with_len}
-use Rattle.md_examine.specs.Sink.{Puts}
-use Rattle.md_examine.proofs.Puts.{puts_then}
+use Rattle.md_streams.specs.Sink.{Puts}
+use Rattle.md_streams.proofs.Puts.{puts_then}
 use Rattle.md_report.specs.AsText.CheckReport.{check_text, chunk_text, list_text}
 use Rattle.md_report.proofs.as_text.check_line.check_list_report.Goals as goal
 

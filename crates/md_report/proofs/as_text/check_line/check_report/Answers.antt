@@ -1,5 +1,5 @@
 use Rattle.md_report.specs.AsText.CheckReport.{check_text}
-use Rattle.md_examine.proofs.Puts.{puts_then}
+use Rattle.md_streams.proofs.Puts.{puts_then}
 use Rattle.md_report.proofs.as_text.check_line.check_report.Goals as goal
 
 pub returns : goal.returns

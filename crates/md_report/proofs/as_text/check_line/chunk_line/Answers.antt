@@ -1,5 +1,5 @@
 use Rattle.md_report.specs.AsText.CheckReport.{chunk_line}
-use Rattle.md_examine.proofs.Puts.{puts_then}
+use Rattle.md_streams.proofs.Puts.{puts_then}
 use Rattle.md_report.proofs.as_text.check_line.chunk_line.Goals as goal
 
 pub returns : goal.returns

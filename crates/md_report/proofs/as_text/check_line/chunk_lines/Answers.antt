@@ -1,6 +1,7 @@
 use Rattle.std.proofs.Common.{ℕ, List, subst}
-use Rattle.md_examine.specs.Sink.{Puts}
-use Rattle.md_examine.proofs.Puts.{puts_then, puts_nothing, flat_map_next}
+use Rattle.md_streams.specs.Sink.{Puts}
+use Rattle.md_streams.proofs.Puts.{puts_then, puts_nothing}
+use Rattle.md_examine.proofs.Texts.{flat_map_next}
 use Rattle.md_report.specs.AsText.CheckReport.{chunk_text}
 use Rattle.md_report.proofs.as_text.check_line.chunk_lines.Goals as goal
 

@@ -1,5 +1,5 @@
 use Rattle.std.specs.List.{flat_map, range_with_len}
-use Rattle.md_examine.specs.Sink.{Puts}
+use Rattle.md_streams.specs.Sink.{Puts}
 use Rattle.md_report.specs.AsText.CheckReport.{chunk_text}
 use Rattle.md_report.proofs.as_text.check_line.chunk_lines.Given as goal
 

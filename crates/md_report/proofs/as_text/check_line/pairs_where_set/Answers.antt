@@ -2,10 +2,10 @@ use Rattle.std.proofs.Common.{◌≡◌, ◌∙◌, ◌++◌, ℕ, List, ap, get
 use Rattle.std.specs.List.{flat_map}
 use Rattle.std.proofs.lemmas.List.{take_all}
 use Rattle.std.proofs.lemmas.Option.{get_or_from_slice_get, slice_get_read}
-use Rattle.md_check.specs.declared.found.Pair.{Pair}
-use Rattle.md_examine.specs.Sink.{Puts}
+use Rattle.md_collect.specs.declared.found.Pair.{Pair}
+use Rattle.md_streams.specs.Sink.{Puts}
 use Rattle.md_report.specs.AsText.CheckReport.{pair_in}
-use Rattle.md_examine.proofs.Puts.{puts_then, puts_nothing, flat_map_at}
+use Rattle.md_streams.proofs.Puts.{puts_then, puts_nothing, flat_map_at}
 use Rattle.md_report.proofs.as_text.check_line.pairs_where_set.Goals as goal
 
 pub loop-pair-init : goal.loop-pair-init

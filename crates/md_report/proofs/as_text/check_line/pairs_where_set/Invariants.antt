@@ -1,6 +1,6 @@
 use Rattle.std.proofs.Common.{take}
 use Rattle.std.specs.List.{flat_map}
-use Rattle.md_examine.specs.Sink.{Puts}
+use Rattle.md_streams.specs.Sink.{Puts}
 use Rattle.md_report.specs.AsText.CheckReport.{pair_in}
 use Rattle.md_report.proofs.as_text.check_line.pairs_where_set.Given as goal
 

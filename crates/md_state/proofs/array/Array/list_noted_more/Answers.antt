@@ -1,4 +1,4 @@
-use Rattle.std.proofs.Common.{ap, arith, refl, rules}
+use Rattle.std.proofs.Common.{ap, arith, refl, rules, sym}
 use Rattle.md_kept_members.specs.Enrolling.{log_room}
 use Rattle.md_kept_members.specs.View.{MemberView}
 use Rattle.md_state.proofs.Members.At.{member_read}
@@ -15,7 +15,7 @@ returns-then-entries_needed-log_room c =
         member = m;
         at = member_read c.args.self.now _ c.args.k m c.self.view_is c.requires c.index-member.ensures;
         list = c.in-Ok.list;
-        list_is = c.in-Ok.ensures;
+        list_is = c.in-Ok.ensures m (ap (λ (x : MemberView). x.bad) (sym c.member.view_is)) (ap (λ (x : MemberView). x.superblock.data_offset) (sym c.member.view_is));
         full = λ fits. let f = c.log_room.ensures in let g = c.entries_needed.ensures in absurd (omega arith);
       },
     )
@@ -29,6 +29,6 @@ returns c =
       running = search rules;
       member = m;
       at = member_read c.args.self.now _ c.args.k m c.self.view_is c.requires c.index-member.ensures;
-      list_is = c.in-Ok.ensures;
+      list_is = c.in-Ok.ensures m (ap (λ (x : MemberView). x.bad) (sym c.member.view_is)) (ap (λ (x : MemberView). x.superblock.data_offset) (sym c.member.view_is));
       room = let f = c.log_room.ensures in let g = c.entries_needed.ensures in omega arith;
     }

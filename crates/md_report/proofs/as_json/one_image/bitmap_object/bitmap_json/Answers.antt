@@ -1,6 +1,6 @@
 use Rattle.std.proofs.Common.{[], ◌∷◌, codes}
 use Rattle.md_report.specs.AsJson.OneImage.BitmapObject.{identity_fields, mark_fields, setting_fields}
-use Rattle.md_examine.proofs.Puts.{puts_then}
+use Rattle.md_streams.proofs.Puts.{puts_then}
 use Rattle.md_report.proofs.JsonLemmas.Texts.{puts_report}
 use Rattle.md_report.proofs.as_json.one_image.bitmap_object.bitmap_json.Goals as goal
 

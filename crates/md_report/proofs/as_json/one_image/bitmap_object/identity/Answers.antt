@@ -1,6 +1,6 @@
 use Rattle.md_report.specs.AsJson.Objects.{later_text}
 use Rattle.md_report.specs.AsJson.OneImage.BitmapObject.{identity_fields}
-use Rattle.md_examine.proofs.Puts.{puts_then}
+use Rattle.md_streams.proofs.Puts.{puts_then}
 use Rattle.md_report.proofs.JsonLemmas.Texts.{puts_last}
 use Rattle.md_report.proofs.as_json.one_image.bitmap_object.identity.Goals as goal
 

@@ -1,5 +1,5 @@
 use Rattle.md_report.specs.AsJson.Objects.{next_text}
-use Rattle.md_examine.proofs.Puts.{puts_then}
+use Rattle.md_streams.proofs.Puts.{puts_then}
 use Rattle.md_report.proofs.as_json.one_image.superblock_object.next_log.Goals as goal
 
 pub returns : goal.returns

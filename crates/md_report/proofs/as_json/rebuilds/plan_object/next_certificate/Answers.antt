@@ -1,5 +1,5 @@
 use Rattle.md_report.specs.AsJson.Objects.{next_text}
-use Rattle.md_examine.proofs.Puts.{puts_then}
+use Rattle.md_streams.proofs.Puts.{puts_then}
 use Rattle.md_report.proofs.as_json.rebuilds.plan_object.next_certificate.Goals as goal
 
 pub returns : goal.returns

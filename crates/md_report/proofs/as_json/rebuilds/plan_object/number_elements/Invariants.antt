@@ -1,5 +1,5 @@
 use Rattle.std.proofs.Common.{◌≡◌, false, take}
-use Rattle.md_examine.specs.Sink.{Puts}
+use Rattle.md_streams.specs.Sink.{Puts}
 use Rattle.md_report.specs.AsJson.Objects.{elements_text, whole}
 use Rattle.md_report.proofs.JsonLemmas.Texts.{is_later}
 use Rattle.md_report.proofs.as_json.rebuilds.plan_object.number_elements.Given as goal

@@ -2,7 +2,7 @@ use Rattle.std.proofs.Common.{[], ◌∷◌, codes}
 use Rattle.md_report.specs.AsJson.WholeArray.ArrayObjects.{members_fields}
 use Rattle.md_report.specs.AsJson.Rebuilds.PlanObject.{plan_fields}
 use Rattle.md_report.specs.AsJson.WholeArray.MemberObjects.{texts_of}
-use Rattle.md_examine.proofs.Puts.{puts_then}
+use Rattle.md_streams.proofs.Puts.{puts_then}
 use Rattle.md_report.proofs.JsonLemmas.Texts.{puts_report}
 use Rattle.md_report.proofs.as_json.rebuilds.plan_object.plan_json.Goals as goal
 

@@ -1,7 +1,7 @@
 use Rattle.std.proofs.Common.{ℕ, false, List, ap, refl, subst, arith, rules}
 use Rattle.std.proofs.lemmas.List.{take_all}
-use Rattle.md_examine.specs.Sink.{Puts}
-use Rattle.md_examine.proofs.Puts.{puts_then, puts_nothing}
+use Rattle.md_streams.specs.Sink.{Puts}
+use Rattle.md_streams.proofs.Puts.{puts_then, puts_nothing}
 use Rattle.md_report.specs.AsJson.Objects.{elements_text}
 use Rattle.md_report.specs.AsJson.Rebuilds.PlanObject.{slot_object}
 use Rattle.md_report.proofs.JsonLemmas.Texts.{element_at, later_next}

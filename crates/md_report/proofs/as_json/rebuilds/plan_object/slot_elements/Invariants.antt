@@ -1,5 +1,5 @@
 use Rattle.std.proofs.Common.{◌≡◌, false, take}
-use Rattle.md_examine.specs.Sink.{Puts}
+use Rattle.md_streams.specs.Sink.{Puts}
 use Rattle.md_report.specs.AsJson.Objects.{elements_text}
 use Rattle.md_report.specs.AsJson.Rebuilds.PlanObject.{slot_object}
 use Rattle.md_report.proofs.JsonLemmas.Texts.{is_later}

@@ -1,6 +1,6 @@
 use Rattle.std.proofs.Common.{[], ◌∷◌, codes}
 use Rattle.md_report.specs.AsJson.Rebuilds.RebuiltObject.{rebuilt_fields}
-use Rattle.md_examine.proofs.Puts.{puts_then}
+use Rattle.md_streams.proofs.Puts.{puts_then}
 use Rattle.md_report.proofs.JsonLemmas.Texts.{puts_report}
 use Rattle.md_report.proofs.as_json.rebuilds.rebuilt_object.rebuilt_json.Goals as goal
 

@@ -1,6 +1,6 @@
 use Rattle.std.proofs.Common.{[], ◌∷◌, codes}
 use Rattle.md_report.specs.AsJson.Rebuilds.SalvagedObject.{salvaged_fields}
-use Rattle.md_examine.proofs.Puts.{puts_then}
+use Rattle.md_streams.proofs.Puts.{puts_then}
 use Rattle.md_report.proofs.JsonLemmas.Texts.{puts_report}
 use Rattle.md_report.proofs.as_json.rebuilds.salvaged_object.salvaged_json.Goals as goal
 

@@ -1,5 +1,5 @@
 use Rattle.std.proofs.Common.{ℕ, List, subst}
-use Rattle.md_examine.specs.Sink.{PutsOrFails}
+use Rattle.md_streams.specs.Sink.{PutsOrFails}
 use Rattle.md_report.proofs.JsonLemmas.Members.{image_is}
 use Rattle.md_report.proofs.as_json.whole_array.member_objects.image.Goals as goal
 

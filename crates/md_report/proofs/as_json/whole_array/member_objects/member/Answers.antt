@@ -1,6 +1,6 @@
 use Rattle.std.proofs.Common.{codes}
 use Rattle.md_report.specs.AsJson.WholeArray.MemberObjects.{image_value, member_fields, texts_of}
-use Rattle.md_examine.proofs.Puts.{puts_then}
+use Rattle.md_streams.proofs.Puts.{puts_then}
 use Rattle.md_report.proofs.JsonLemmas.Texts.{puts_object}
 use Rattle.md_report.proofs.as_json.whole_array.member_objects.member.Goals as goal
 

@@ -1,6 +1,6 @@
 use Rattle.std.proofs.Common.{ℕ, List, subst, arith}
-use Rattle.md_examine.specs.Sink.{Puts}
-use Rattle.md_examine.proofs.Puts.{puts_then, puts_nothing}
+use Rattle.md_streams.specs.Sink.{Puts}
+use Rattle.md_streams.proofs.Puts.{puts_then, puts_nothing}
 use Rattle.md_report.specs.AsJson.WholeArray.MemberObjects.{member_texts, texts_of}
 use Rattle.md_report.proofs.JsonLemmas.Members.{member_more}
 use Rattle.md_report.proofs.as_json.whole_array.member_objects.member_items.Goals as goal

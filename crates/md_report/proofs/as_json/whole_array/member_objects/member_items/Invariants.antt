@@ -1,5 +1,5 @@
 use Rattle.std.proofs.Common.{take}
-use Rattle.md_examine.specs.Sink.{Puts}
+use Rattle.md_streams.specs.Sink.{Puts}
 use Rattle.md_report.specs.AsJson.WholeArray.MemberObjects.{member_texts, texts_of}
 use Rattle.md_report.proofs.as_json.whole_array.member_objects.member_items.Given as goal
 

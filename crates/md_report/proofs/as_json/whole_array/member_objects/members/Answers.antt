@@ -1,7 +1,7 @@
 use Rattle.std.proofs.Common.{ℕ, List, ◌∷◌, ◌++◌, codes, subst}
-use Rattle.md_examine.specs.Sink.{Puts}
+use Rattle.md_streams.specs.Sink.{Puts}
 use Rattle.md_report.specs.AsJson.WholeArray.MemberObjects.{texts_of}
-use Rattle.md_examine.proofs.Puts.{puts_then}
+use Rattle.md_streams.proofs.Puts.{puts_then}
 use Rattle.md_report.specs.AsJson.WholeArray.ArrayObjects.{members_fields}
 use Rattle.md_report.specs.AsJson.Objects.{key_text, later_text, next_text}
 use Rattle.md_report.proofs.JsonLemmas.Members.{members_are}

@@ -1,6 +1,6 @@
 use Rattle.std.proofs.Common.{◌∙◌, ◌||◌, ◌<◌, Bool, ℕ, List, ap, length, refl, subst, arith}
-use Rattle.md_examine.specs.Sink.{Puts}
-use Rattle.md_examine.proofs.Puts.{puts_then, puts_nothing}
+use Rattle.md_streams.specs.Sink.{Puts}
+use Rattle.md_streams.proofs.Puts.{puts_then, puts_nothing}
 use Rattle.md_report.specs.Recovery.{recoveries}
 use Rattle.md_report.specs.AsJson.Objects.{elements_text}
 use Rattle.md_report.proofs.Recoveries.{elements_more, later_more}

@@ -1,5 +1,5 @@
 use Rattle.std.proofs.Common.{◌≡◌, false, length, take}
-use Rattle.md_examine.specs.Sink.{Puts}
+use Rattle.md_streams.specs.Sink.{Puts}
 use Rattle.md_report.specs.Recovery.{recoveries}
 use Rattle.md_report.specs.AsJson.Objects.{elements_text}
 use Rattle.md_report.specs.AsJson.WholeArray.RecoveringList.{recovery_object}

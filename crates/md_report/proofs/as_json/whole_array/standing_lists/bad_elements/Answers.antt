@@ -1,8 +1,8 @@
 use Rattle.std.proofs.Common.{◌∙◌, ◌<◌, ◌++◌, ℕ, false, List, ap, nat_lt, length, take, subst, arith}
 use Rattle.serde_json.specs.Written.{comma_if, compact_text}
 use Rattle.md_badblocks.specs.declared.run.Run.{Run}
-use Rattle.md_examine.specs.Sink.{Puts}
-use Rattle.md_examine.proofs.Puts.{puts_then, puts_nothing}
+use Rattle.md_streams.specs.Sink.{Puts}
+use Rattle.md_streams.proofs.Puts.{puts_then, puts_nothing}
 use Rattle.md_report.specs.AsJson.OneImage.BadblocksObject.{run_object}
 use Rattle.md_report.specs.AsJson.Objects.{elements_text, list_of}
 use Rattle.md_report.specs.AsJson.WholeArray.StandingLists.{bad_value}

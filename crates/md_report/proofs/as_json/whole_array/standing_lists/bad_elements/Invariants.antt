@@ -1,5 +1,5 @@
 use Rattle.std.proofs.Common.{false, take}
-use Rattle.md_examine.specs.Sink.{Puts}
+use Rattle.md_streams.specs.Sink.{Puts}
 use Rattle.md_report.specs.AsJson.Objects.{elements_text}
 use Rattle.md_report.specs.AsJson.WholeArray.StandingLists.{bad_value}
 use Rattle.md_report.proofs.as_json.whole_array.standing_lists.bad_elements.Given as goal

@@ -1,5 +1,5 @@
 use Rattle.std.proofs.Common.{◌≡◌, false, length}
-use Rattle.md_examine.specs.Sink.{Puts}
+use Rattle.md_streams.specs.Sink.{Puts}
 use Rattle.md_report.specs.AsJson.Objects.{elements_text, whole}
 use Rattle.md_report.specs.AsJson.WholeArray.StandingLists.{missing_to}
 use Rattle.md_report.proofs.JsonLemmas.Texts.{is_later}

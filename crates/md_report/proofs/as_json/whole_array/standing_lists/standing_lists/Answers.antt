@@ -1,4 +1,4 @@
-use Rattle.md_examine.proofs.Puts.{puts_then}
+use Rattle.md_streams.proofs.Puts.{puts_then}
 use Rattle.md_report.specs.AsJson.Objects.{later_text}
 use Rattle.md_report.specs.AsJson.WholeArray.StandingLists.{standing_fields}
 use Rattle.md_report.proofs.JsonLemmas.Texts.{puts_last}

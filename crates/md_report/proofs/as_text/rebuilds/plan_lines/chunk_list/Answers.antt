@@ -1,8 +1,8 @@
 use Rattle.std.proofs.Common.{ℕ, List, ◌++◌, ap, codes, decimal, subst, arith, rules}
 use Rattle.std.proofs.lemmas.List.{take_all}
-use Rattle.md_examine.specs.Sink.{Puts}
+use Rattle.md_streams.specs.Sink.{Puts}
 use Rattle.md_report.specs.AsText.Rebuilds.PlanReport.{chunks_text}
-use Rattle.md_examine.proofs.Puts.{puts_then, puts_nothing, flat_map_at}
+use Rattle.md_streams.proofs.Puts.{puts_then, puts_nothing, flat_map_at}
 use Rattle.md_report.proofs.as_text.rebuilds.plan_lines.chunk_list.Goals as goal
 
 pub loop-chunk-init : goal.loop-chunk-init

@@ -1,5 +1,5 @@
 use Rattle.std.proofs.Common.{take}
-use Rattle.md_examine.specs.Sink.{Puts}
+use Rattle.md_streams.specs.Sink.{Puts}
 use Rattle.md_report.specs.AsText.Rebuilds.PlanReport.{chunks_text}
 use Rattle.md_report.proofs.as_text.rebuilds.plan_lines.chunk_list.Given as goal
 

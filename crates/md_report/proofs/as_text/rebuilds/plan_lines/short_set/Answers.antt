@@ -1,5 +1,5 @@
 use Rattle.md_report.specs.AsText.Rebuilds.PlanReport.{short_set_text}
-use Rattle.md_examine.proofs.Puts.{puts_then}
+use Rattle.md_streams.proofs.Puts.{puts_then}
 use Rattle.md_report.proofs.as_text.rebuilds.plan_lines.short_set.Goals as goal
 
 pub returns : goal.returns

@@ -1,5 +1,5 @@
 use Rattle.md_report.specs.AsText.Rebuilds.SalvagedReport.{salvaged_line}
-use Rattle.md_examine.proofs.Puts.{puts_then}
+use Rattle.md_streams.proofs.Puts.{puts_then}
 use Rattle.md_report.proofs.as_text.rebuilds.salvaged_lines.salvaged_line_report.Goals as goal
 
 pub returns : goal.returns

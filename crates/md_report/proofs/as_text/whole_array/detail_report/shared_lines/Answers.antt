@@ -1,5 +1,5 @@
 use Rattle.md_report.specs.AsText.WholeArray.DetailReport.{shared_lines}
-use Rattle.md_examine.proofs.Puts.{puts_then}
+use Rattle.md_streams.proofs.Puts.{puts_then}
 use Rattle.md_report.proofs.as_text.whole_array.detail_report.shared_lines.Goals as goal
 
 pub returns : goal.returns

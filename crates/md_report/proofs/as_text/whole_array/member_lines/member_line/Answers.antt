@@ -1,5 +1,5 @@
 use Rattle.md_report.specs.AsText.WholeArray.DetailReport.{member_text}
-use Rattle.md_examine.proofs.Puts.{puts_then}
+use Rattle.md_streams.proofs.Puts.{puts_then}
 use Rattle.md_report.proofs.as_text.whole_array.member_lines.member_line.Goals as goal
 
 pub returns : goal.returns

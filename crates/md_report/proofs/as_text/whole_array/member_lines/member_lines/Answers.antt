@@ -1,8 +1,8 @@
 use Rattle.std.proofs.Common.{ℕ, List, subst, arith}
-use Rattle.md_examine.specs.Sink.{Puts}
+use Rattle.md_streams.specs.Sink.{Puts}
 use Rattle.md_report.specs.AsText.WholeArray.DetailReport.{member_lines}
 use Rattle.md_report.proofs.Members.{line_more}
-use Rattle.md_examine.proofs.Puts.{puts_then, puts_nothing}
+use Rattle.md_streams.proofs.Puts.{puts_then, puts_nothing}
 use Rattle.md_report.proofs.as_text.whole_array.member_lines.member_lines.Goals as goal
 
 pub loop-k-init : goal.loop-k-init

@@ -1,5 +1,5 @@
 use Rattle.std.proofs.Common.{take}
-use Rattle.md_examine.specs.Sink.{Puts}
+use Rattle.md_streams.specs.Sink.{Puts}
 use Rattle.md_report.specs.AsText.WholeArray.DetailReport.{member_lines}
 use Rattle.md_report.proofs.as_text.whole_array.member_lines.member_lines.Given as goal
 

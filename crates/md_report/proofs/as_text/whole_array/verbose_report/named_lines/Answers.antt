@@ -1,9 +1,9 @@
 use Rattle.std.proofs.Common.{ℕ, List, subst, arith}
-use Rattle.md_examine.specs.Sink.{Puts}
+use Rattle.md_streams.specs.Sink.{Puts}
 use Rattle.md_report.specs.AsText.WholeArray.VerboseReport.{named_lines}
 use Rattle.md_report.specs.AsJson.WholeArray.MemberObjects.{texts_of}
 use Rattle.md_report.proofs.NamedMembers.{named_more}
-use Rattle.md_examine.proofs.Puts.{puts_then, puts_nothing}
+use Rattle.md_streams.proofs.Puts.{puts_then, puts_nothing}
 use Rattle.md_report.proofs.as_text.whole_array.verbose_report.named_lines.Goals as goal
 
 pub loop-k-init : goal.loop-k-init
